@@ -1,0 +1,3 @@
+-- The laws that other crates cite, and what the functions' proofs share.
+pub mod Computes
+pub mod Figures

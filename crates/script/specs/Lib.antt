@@ -1,0 +1,10 @@
+-- The script language. To be read in this order: Tree (scripts), Table (a record by itself), Parse (reading a table, 1 to 7), Stage (what a
+-- stage is), Scope (8, 9), Types (10), Stores (11), Plain (what a script means).
+pub mod Tree
+pub mod Table
+pub mod Parse
+pub mod Stage
+pub mod Scope
+pub mod Types
+pub mod Stores
+pub mod Plain

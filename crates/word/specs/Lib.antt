@@ -1,0 +1,8 @@
+-- What every other crate speaks in. To be read in this order: Value (values and operators), Code (the operators' codes), Types,
+-- Records (four words to a record), Slots, Bytes (the arrays).
+pub mod Value
+pub mod Code
+pub mod Types
+pub mod Records
+pub mod Slots
+pub mod Bytes

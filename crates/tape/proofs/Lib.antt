@@ -2,3 +2,4 @@
 pub mod Computes
 pub mod Closing
 pub mod Meaning
+pub mod Sound

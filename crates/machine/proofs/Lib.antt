@@ -1,1 +1,7 @@
+-- The laws that other crates cite, and what the functions' proofs share.
 pub mod Computes
+mod Storing
+mod Idle
+mod Passing
+mod Copying
+mod Counting

@@ -2,4 +2,5 @@
 pub mod Product
 pub mod Laws
 pub mod Memory
+pub mod Records
 pub mod Computes

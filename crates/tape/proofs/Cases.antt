@@ -1,0 +1,75 @@
+-- What a record says, by its kind. Assumes nothing.
+use mathlib.Core.Path.{_≡_, refl}
+use mathlib.Core.Bool.{Bool, true, false, cond}
+use Prim.Native.Nat.{ℕ}
+use borrow.Author.Tests.{eqb-true}
+use lib.Dec.{eqb}
+use Rattle.word.specs.declared.Record.{Record}
+use Rattle.tape.specs.Instruction.{Instruction, program, array, cfunc, lit, var, get, not, bin, call, def, set, put, for, end, ret, other, read}
+
+-- a property of each instruction, where the record has its kind
+pub record ByKind (P : Instruction → Type 0) (x : Record) : Type 0 where
+  pub on-program : x .kind ≡ 1 → P (program (x .p) (x .q))
+  pub on-array : x .kind ≡ 2 → P (array (x .p))
+  pub on-cfunc : x .kind ≡ 3 → P (cfunc (x .p) (x .q))
+  pub on-lit : x .kind ≡ 10 → P (lit (x .p))
+  pub on-var : x .kind ≡ 11 → P (var (x .p))
+  pub on-get : x .kind ≡ 12 → P (get (x .p))
+  pub on-not : x .kind ≡ 13 → P not
+  pub on-bin : x .kind ≡ 14 → P (bin (x .p))
+  pub on-call : x .kind ≡ 15 → P (call (x .p))
+  pub on-def : x .kind ≡ 16 → P (def (x .p))
+  pub on-set : x .kind ≡ 17 → P (set (x .p))
+  pub on-put : x .kind ≡ 18 → P (put (x .p))
+  pub on-for : x .kind ≡ 19 → P (for (x .p) (x .q) (x .r))
+  pub on-end : x .kind ≡ 20 → P end
+  pub on-ret : x .kind ≡ 21 → P (ret (x .p))
+  pub on-other : P other
+
+choose : (P : Instruction → Type 0) (a b : ℕ) {x y : Instruction} → (a ≡ b → P x) → P y → P (cond (eqb a b) x y)
+choose P a b {x} {y} h k = go (eqb a b) refl
+  where
+    go : (t : Bool) → eqb a b ≡ t → P (cond t x y)
+    go true e = h (eqb-true a b e)
+    go false e = k
+
+-- it holds of what the record says
+pub by-kind : (P : Instruction → Type 0) (x : Record) → ByKind P x → P (read x)
+unfolding read
+by-kind P x h =
+    choose P (x .kind) 1 (h .on-program)
+    (choose P (x .kind) 2 (h .on-array)
+    (choose P (x .kind) 3 (h .on-cfunc)
+    (choose P (x .kind) 10 (h .on-lit)
+    (choose P (x .kind) 11 (h .on-var)
+    (choose P (x .kind) 12 (h .on-get)
+    (choose P (x .kind) 13 (h .on-not)
+    (choose P (x .kind) 14 (h .on-bin)
+    (choose P (x .kind) 15 (h .on-call)
+    (choose P (x .kind) 16 (h .on-def)
+    (choose P (x .kind) 17 (h .on-set)
+    (choose P (x .kind) 18 (h .on-put)
+    (choose P (x .kind) 19 (h .on-for)
+    (choose P (x .kind) 20 (h .on-end)
+    (choose P (x .kind) 21 (h .on-ret) (h .on-other)))))))))))))))
+
+-- and the kinds whose fields matter most
+pub read-call : (x : Record) → x .kind ≡ 15 → read x ≡ call (x .p)
+unfolding read
+read-call x e = rw e refl
+
+pub read-for : (x : Record) → x .kind ≡ 19 → read x ≡ for (x .p) (x .q) (x .r)
+unfolding read
+read-for x e = rw e refl
+
+pub read-end : (x : Record) → x .kind ≡ 20 → read x ≡ end
+unfolding read
+read-end x e = rw e refl
+
+pub read-ret : (x : Record) → x .kind ≡ 21 → read x ≡ ret (x .p)
+unfolding read
+read-ret x e = rw e refl
+
+pub read-lit : (x : Record) → x .kind ≡ 10 → read x ≡ lit (x .p)
+unfolding read
+read-lit x e = rw e refl

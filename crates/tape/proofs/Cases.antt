@@ -73,3 +73,15 @@ read-ret x e = rw e refl
 pub read-lit : (x : Record) → x .kind ≡ 10 → read x ≡ lit (x .p)
 unfolding read
 read-lit x e = rw e refl
+
+pub read-cfunc : (x : Record) → x .kind ≡ 3 → read x ≡ cfunc (x .p) (x .q)
+unfolding read
+read-cfunc x e = rw e refl
+
+pub read-array : (x : Record) → x .kind ≡ 2 → read x ≡ array (x .p)
+unfolding read
+read-array x e = rw e refl
+
+pub read-program : (x : Record) → x .kind ≡ 1 → read x ≡ program (x .p) (x .q)
+unfolding read
+read-program x e = rw e refl

@@ -7,6 +7,11 @@ pub mod Reading
 pub mod Declaring
 pub mod Closing
 pub mod Places
+pub mod Steady
+pub mod Entered
+pub mod Placing
+pub mod Standing
+pub mod Declared
 pub mod Meaning
 pub mod Sound
 pub mod Costs

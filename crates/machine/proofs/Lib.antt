@@ -5,3 +5,7 @@ mod Idle
 mod Passing
 mod Copying
 mod Counting
+mod Piled
+mod Relation
+mod Moving
+mod KeepsValues

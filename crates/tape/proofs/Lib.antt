@@ -1,5 +1,6 @@
 -- The laws that other crates cite, and what the functions' proofs share. A record by itself: Cases, Reading, Declaring. The check: Closing, Places (the
--- scan's state before each record). Core trees: Meaning, Sound, Costs. The rules: Tails, Settling, Running (counted steps), Entering, Follows (on the
+-- scan's state before each record). Core trees: Meaning, Sound, Costs,
+-- Staying (what stays visible), Sizes (records), Heights (operands), Ranged (fields). The rules: Tails, Settling, Running (counted steps), Entering, Follows (on the
 -- tape of a tree they do what the tree means), Counted, Alike (lockstep), Worded (values stay words).
 pub mod Computes
 pub mod Cases
@@ -15,6 +16,10 @@ pub mod Declared
 pub mod Meaning
 pub mod Sound
 pub mod Costs
+pub mod Staying
+pub mod Sizes
+pub mod Heights
+pub mod Ranged
 pub mod Tails
 pub mod Settling
 pub mod Running

@@ -13,6 +13,7 @@ use Rattle.word.specs.declared.Record.{Record}
 use Rattle.tape.specs.Instruction.{Instruction, Code, program, array, cfunc, lit, var, get, not, bin, call, def, set, put, for, end, ret, other, read, codeOf}
 use Rattle.tape.specs.Entries.{Declares, declares, withEntry, length-of, params-of, nothing, entriesOf, entryAt}
 use Rattle.tape.specs.Rules.{past}
+use Rattle.word.proofs.Memory.{Words, no-word, a-word}
 
 -- what is left of a code after some of its records
 pub data Tail : Code → Code → Type 0 where
@@ -80,10 +81,6 @@ entry-tail (i ∷ c) f = later (by (declares i) f (entry-tail c))
     by nothing g rest = rest g
 
 -- ---- numbers
-pub data Words : List ℕ → Type 0 where
-  none : Words []
-  more : {v : ℕ} {s : List ℕ} → v < 2 ^ 32 → Words s → Words (v ∷ s)
-
 -- the number of a record that may come to be a value: a literal, or where a loop ends
 unfoldable pub carries : Instruction → ℕ
 carries (program p q) = 0
@@ -134,8 +131,8 @@ read-worded x p r =
 
 pub tape-worded : {t : List ℕ} → Words t → WordedCode (codeOf t)
 unfolding codeOf recordsOf
-tape-worded none = empty
-tape-worded (more k none) = empty
-tape-worded (more k (more p none)) = empty
-tape-worded (more k (more p (more q none))) = empty
-tape-worded (more {v = a} k (more {v = b} p (more {v = c} q (more {v = d} r h)))) = worded (read-worded (rec a b c d) p r) (tape-worded h)
+tape-worded no-word = empty
+tape-worded (a-word k no-word) = empty
+tape-worded (a-word k (a-word p no-word)) = empty
+tape-worded (a-word k (a-word p (a-word q no-word))) = empty
+tape-worded (a-word {v = a} k (a-word {v = b} p (a-word {v = c} q (a-word {v = d} r h)))) = worded (read-worded (rec a b c d) p r) (tape-worded h)

@@ -11,7 +11,7 @@ use lib.ListN.{length, getD}
 use Rattle.word.specs.Code.{opOf}
 use Rattle.word.specs.Slots.{here, upd, Slots, fresh}
 use Rattle.word.proofs.Laws.{word, flip-word, op-word}
-use Rattle.word.proofs.Memory.{Bytes, fetch-val, store-bytes, store-length}
+use Rattle.word.proofs.Memory.{Words, no-word, a-word, Bytes, fetch-val, store-bytes, store-length}
 use Rattle.tape.specs.Core.{CProgram}
 use Rattle.tape.specs.Instruction.{Instruction, Code, program, array, cfunc, lit, var, get, not, bin, call, def, set, put, for, end, ret, other}
 use Rattle.tape.specs.Tape.{instructions}
@@ -19,7 +19,7 @@ use Rattle.tape.specs.Entries.{Entry, lengthsOf, entriesOf, entryAt, exp
 use Rattle.tape.specs.Rules.{World, Loop, Frame, Machine, at, halted, stuck, tick, stored, one, two, grab, pass, again, ending, back, exec, step, Turn, free, counts, renews, turnFor, turnEnd, turnLoops, turn, quiet, left, settle, stands, placeBy, place}
 use Rattle.tape.proofs.Meaning.{cprogram}
 use Rattle.tape.proofs.Sound.{Sound}
-use Rattle.tape.proofs.Tails.{Tail, tail-length, tail-next, tail-after, past-tail, entry-tail, Words, none, more, carries, carried, WordedCode, worded, tail-worded}
+use Rattle.tape.proofs.Tails.{Tail, tail-length, tail-next, tail-after, past-tail, entry-tail, carries, carried, WordedCode, worded, tail-worded}
 use Rattle.tape.proofs.Running.{Runs, here as stay, quietly, counting, opening, standing}
 use Rattle.tape.proofs.Follows.{follows}
 
@@ -60,9 +60,9 @@ fresh-worded : {vs : List ℕ} → Words vs → WordedSlots (fresh vs)
 fresh-worded h = record { slot = at-slot h }
   where
     at-slot : {vs : List ℕ} → Words vs → (x : ℕ) → getD vs x 0 < 2 ^ 32
-    at-slot none x = lit< tt
-    at-slot (more k r) zero = k
-    at-slot (more k r) (suc x) = at-slot r x
+    at-slot no-word x = lit< tt
+    at-slot (a-word k r) zero = k
+    at-slot (a-word k r) (suc x) = at-slot r x
 
 tick-page : {n : ℕ} {w : World} → Page n w → Page n (tick w)
 unfolding tick
@@ -79,22 +79,22 @@ module _ (t : Code) (𝓣 : WordedCode t) (n : ℕ) where
   one-worded : {s : List ℕ} → Words s → (g : ℕ → List ℕ → Machine) → ((v : ℕ) (s₁ : List ℕ) → v < 2 ^ 32 → Words s₁ → Worded t n (g v s₁))
       → Worded t n (one s g)
   unfolding one
-  one-worded none g k = worded-stuck
-  one-worded (more h r) g k = k _ _ h r
+  one-worded no-word g k = worded-stuck
+  one-worded (a-word h r) g k = k _ _ h r
 
   two-worded : {s : List ℕ} → Words s → (g : ℕ → ℕ → List ℕ → Machine)
       → ((u v : ℕ) (s₁ : List ℕ) → u < 2 ^ 32 → v < 2 ^ 32 → Words s₁ → Worded t n (g u v s₁)) → Worded t n (two s g)
   unfolding two
-  two-worded none g k = worded-stuck
-  two-worded (more h none) g k = worded-stuck
-  two-worded (more h (more i r)) g k = k _ _ _ i h r
+  two-worded no-word g k = worded-stuck
+  two-worded (a-word h no-word) g k = worded-stuck
+  two-worded (a-word h (a-word i r)) g k = k _ _ _ i h r
 
   grab-worded : (j : ℕ) {s vs : List ℕ} → Words s → Words vs → (g : List ℕ → List ℕ → Machine)
       → ((us s₁ : List ℕ) → Words us → Words s₁ → Worded t n (g us s₁)) → Worded t n (grab j s vs g)
   unfolding grab
   grab-worded zero r q g k = k _ _ q r
-  grab-worded (suc j) none q g k = worded-stuck
-  grab-worded (suc j) (more h r) q g k = grab-worded j r (more h q) g k
+  grab-worded (suc j) no-word q g k = worded-stuck
+  grab-worded (suc j) (a-word h r) q g k = grab-worded j r (a-word h q) g k
 
   -- a pass has a number below its loop's end, which is on the tape
   pass-worded : (b : Bool) (l : Loop) (first : ℕ) {c : Code} {s : List ℕ} {τ : Slots} {L : List Loop} {F : List Frame} {w : World}
@@ -116,7 +116,7 @@ module _ (t : Code) (𝓣 : WordedCode t) (n : ℕ) where
   back-worded : {F : List Frame} {w : World} → WordedFrames t F → (v : ℕ) → v < 2 ^ 32 → Page n w → Worded t n (back F v w)
   unfolding back
   back-worded no-frame v h g = worded-halted h (tick-page g)
-  back-worded (frame c r x y f) v h g = worded-at c (more h r) x y f (tick-page g)
+  back-worded (frame c r x y f) v h g = worded-at c (a-word h r) x y f (tick-page g)
 
   module _ (lengths : List ℕ) (Δ : ℕ → Entry) (𝓔 : (f : ℕ) → Tail (Δ f .code) t) where
     exec-worded : {i : Instruction} {c : Code} {s : List ℕ} {τ : Slots} {L : List Loop} {F : List Frame} {w : World}
@@ -125,14 +125,14 @@ module _ (t : Code) (𝓣 : WordedCode t) (n : ℕ) where
     exec-worded {i = program p q} k r x y f g = worded-stuck
     exec-worded {i = array m} k r x y f g = worded-stuck
     exec-worded {i = cfunc p q} k r x y f g = worded-stuck
-    exec-worded {i = lit v} k r x y f g = worded-at (tail-next k) (more (record-worded (tail-worded k 𝓣)) r) x y f g
-    exec-worded {i = var z} k r x y f g = worded-at (tail-next k) (more (x .slot z) r) x y f (tick-page g)
+    exec-worded {i = lit v} k r x y f g = worded-at (tail-next k) (a-word (record-worded (tail-worded k 𝓣)) r) x y f g
+    exec-worded {i = var z} k r x y f g = worded-at (tail-next k) (a-word (x .slot z) r) x y f (tick-page g)
     exec-worded {i = get a} k r x y f g =
-        one-worded r _ (λ v s₁ h q. worded-at (tail-next k) (more (word (fetch-val lengths (g .bytes) a v)) q) x y f (tick-page g))
-    exec-worded {i = not} k r x y f g = one-worded r _ (λ v s₁ h q. worded-at (tail-next k) (more (flip-word v) q) x y f (tick-page g))
-    exec-worded {i = bin o} k r x y f g = two-worded r _ (λ u v s₁ j h q. worded-at (tail-next k) (more (op-word (opOf o) j h) q) x y f (tick-page g))
+        one-worded r _ (λ v s₁ h q. worded-at (tail-next k) (a-word (word (fetch-val lengths (g .bytes) a v)) q) x y f (tick-page g))
+    exec-worded {i = not} k r x y f g = one-worded r _ (λ v s₁ h q. worded-at (tail-next k) (a-word (flip-word v) q) x y f (tick-page g))
+    exec-worded {i = bin o} k r x y f g = two-worded r _ (λ u v s₁ j h q. worded-at (tail-next k) (a-word (op-word (opOf o) j h) q) x y f (tick-page g))
     exec-worded {i = call b} k r x y f g =
-        grab-worded (Δ b .params) r none _ (λ vs s₁ h q. worded-at (𝓔 b) none (fresh-worded h) no-loop (frame (tail-next k) q x y f) (tick-page g))
+        grab-worded (Δ b .params) r no-word _ (λ vs s₁ h q. worded-at (𝓔 b) no-word (fresh-worded h) no-loop (frame (tail-next k) q x y f) (tick-page g))
     exec-worded {i = def z} k r x y f g = one-worded r _ (λ v s₁ h q. worded-at (tail-next k) q (upd-worded x z v h) y f (tick-page g))
     exec-worded {i = set z} k r x y f g = one-worded r _ (λ v s₁ h q. worded-at (tail-next k) q (upd-worded x z v h) y f (tick-page g))
     exec-worded {i = put a} k r x y f g =
@@ -172,7 +172,7 @@ module _ (t : Code) (𝓣 : WordedCode t) (n : ℕ) where
 -- ---- runs of a tape
 starts-worded : (t : Code) {values : List ℕ} → Words values → (w : World) → Bytes (w .bytes)
     → Worded t (length (w .bytes)) (at (exposed t .code) [] (fresh values) [] [] w)
-starts-worded t v w b = worded-at (entry-tail t (length (entriesOf t) - 1)) none (fresh-worded v) no-loop no-frame (record { bytes = b; size = refl })
+starts-worded t v w b = worded-at (entry-tail t (length (entriesOf t) - 1)) no-word (fresh-worded v) no-loop no-frame (record { bytes = b; size = refl })
 
 -- after n counted steps
 pub standing-worded : (t : Code) → WordedCode t → {values bytes : List ℕ} → Words values → Bytes bytes → (n : ℕ)

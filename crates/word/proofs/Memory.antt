@@ -3,7 +3,7 @@ use mathlib.Core.Path.{_≡_, refl, ap, _∙_, fun-ext}
 use mathlib.Core.Bool.{Bool, true, false}
 use mathlib.Core.List.{List, [], _∷_}
 use mathlib.Core.Logic.{_≢_}
-use Prim.Native.Nat.{ℕ, zero, suc, _+_, _%_, _<_}
+use Prim.Native.Nat.{ℕ, zero, suc, _+_, _%_, _^_, _<_}
 use native.Mathlib.Nat.{mod-lt, mod-eq-of-lt}
 use native.Mathlib.Omega.{arith}
 use native.Mathlib.Decide.{ℕ-discrete}
@@ -31,7 +31,16 @@ upd-id f x = fun-ext (λ y. go y (ℕ-discrete y x))
     go y (yes e) = rw e (upd-same f x (f x))
     go y (no d) = upd-other f x (f x) y d
 
--- ---- bytes
+-- ---- words and bytes
+pub data Words : List ℕ → Type 0 where
+  no-word : Words []
+  a-word : {v : ℕ} {s : List ℕ} → v < 2 ^ 32 → Words s → Words (v ∷ s)
+
+pub words-val : {s : List ℕ} → Words s → (x : ℕ) → Val (getD s x 0) number
+words-val no-word x = isNumber (lit< tt)
+words-val (a-word h r) zero = isNumber h
+words-val (a-word h r) (suc x) = words-val r x
+
 pub data Bytes : List ℕ → Type 0 where
   empty : Bytes []
   byte : {b : ℕ} {m : List ℕ} → b < 256 → Bytes m → Bytes (b ∷ m)

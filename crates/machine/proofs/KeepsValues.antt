@@ -100,7 +100,7 @@ module _ (t : List ℕ) (m : ℕ) (a : Passed t m) where
       floor-low = let h = piled-height (r .on .piled) in omega arith
 
       -- how many operands there are at most, and at least
-      room : (k : ℕ) → takes k (scanAt t (s .regs .at)) ≡ true → (s .regs .operands + 1 ≤ 2048 + k) × (k ≤ length values) × (s .regs .operands ≤ 2048)
+      pub room : (k : ℕ) → takes k (scanAt t (s .regs .at)) ≡ true → (s .regs .operands + 1 ≤ 2048 + k) × (k ≤ length values) × (s .regs .operands ≤ 2048)
       unfolding takes
       room k e =
           let n = scanAt t (s .regs .at) .body .operands in
@@ -114,7 +114,7 @@ module _ (t : List ℕ) (m : ℕ) (a : Passed t m) where
           let z = fine t m a (s .regs .at) (r .on .on-tape) .heights in
           (omega arith, omega arith, omega arith)
 
-      exactly : (k : ℕ) → just k (scanAt t (s .regs .at)) ≡ true → (length values ≡ k) × (s .regs .operands ≡ r .floor + k) × (s .regs .operands ≤ 2048)
+      pub exactly : (k : ℕ) → just k (scanAt t (s .regs .at)) ≡ true → (length values ≡ k) × (s .regs .operands ≡ r .floor + k) × (s .regs .operands ≤ 2048)
       unfolding just
       exactly k e =
           let n = scanAt t (s .regs .at) .body .operands in
@@ -237,7 +237,7 @@ module _ (t : List ℕ) (m : ℕ) (a : Passed t m) where
           let k = r .on .rank in
           omega arith
 
-    wider : (D : Scope) (x : ℕ) (k : Seen) → readable k ≡ true → Inside D (upd D x k)
+    pub wider : (D : Scope) (x : ℕ) (k : Seen) → readable k ≡ true → Inside D (upd D x k)
     wider D x k h = record { sees = λ y v. go y v (ℕ-discrete y x) }
       where
         go : (y : ℕ) → readable (D y) ≡ true → Dec (y ≡ x) → readable (upd D x k y) ≡ true

@@ -9,3 +9,9 @@ mod Piled
 mod Relation
 mod Moving
 mod KeepsValues
+mod KeepsLoops
+mod KeepsEnds
+mod Tables
+mod Handing
+mod KeepsCalls
+mod Keeps

@@ -53,7 +53,7 @@ module _ (t : List ℕ) (m : ℕ) (a : Passed t m) where
   next-record i h e = goes-on t m a (suc i) h (ap more e)
 
   -- ---- callers
-  on-same : {s z : Flat} {b floor floor₁ low low₁ base base₁ c : ℕ} {values : List ℕ} {τ : Slots} {L : List Loop} → Kept s z floor low base c
+  pub on-same : {s z : Flat} {b floor floor₁ low low₁ base base₁ c : ℕ} {values : List ℕ} {τ : Slots} {L : List Loop} → Kept s z floor low base c
       → On t s b 1 floor floor₁ low low₁ base₁ base c values τ L → On t z b 1 floor floor₁ low low₁ base₁ base c values τ L
   on-same {b} {base} {base₁} k o =
       let f = fine b (o .on-tape) in

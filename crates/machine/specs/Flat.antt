@@ -2,7 +2,7 @@
 -- core rules; the contract of `run` does not speak of it. Assumes nothing: these are definitions.
 use Prim.Native.Nat.{ℕ, zero, suc, _+_, _-_, _*_, _≤_, _<_, _^_}
 use mathlib.Core.Path.{_≡_}
-use mathlib.Core.List.{List}
+use mathlib.Core.List.{List, [], _∷_}
 use mathlib.Core.Bool.{Bool, true, false, not as negated}
 use lib.ListN.{length, getD, set as put-at, drop}
 use lib.Dec.{ltb, eqb}
@@ -10,8 +10,10 @@ use Rattle.word.specs.Value.{op, flip}
 use Rattle.word.specs.Code.{opOf}
 use Rattle.word.specs.Records.{records, recordAt}
 use Rattle.word.specs.Bytes.{base as startOf, fetch, store}
-use Rattle.tape.specs.Instruction.{Instruction, program, array, cfunc, lit, var, get, not, bin, call, def, set, put, for, end, ret, other, read, codeOf}
-use Rattle.tape.specs.Entries.{lengthsOf}
+use Rattle.tape.specs.Instruction.{Instruction, Code, program, array, cfunc, lit, var, get, not, bin, call, def, set, put, for, end, ret, other, read, codeOf}
+use Rattle.tape.specs.Entries.{Declares, length-of, params-of, nothing, declares, lengthsOf}
+use Rattle.tape.specs.declared.Checked.{Checked}
+use Rattle.tape.specs.declared.Checked.the-variants.{Accepted, Refused}
 use Rattle.tape.specs.Rules.{past}
 use Rattle.machine.specs.declared.registers.Registers.{Registers}
 
@@ -188,6 +190,21 @@ pub record Ready (t starts funcs : List ℕ) (g : Registers) (fors : List ℕ) (
   pub callable : (f : ℕ) → read (recordAt t (g .at)) ≡ call f → Callable t funcs f g
   pub looping : read (recordAt t (g .at)) ≡ end → Looping t fors g
   pub arrays : (a : ℕ) → a < length (sizes t) → Stored t starts bytes a
+
+-- ---- where each function begins, of code whose first record is the one numbered `at`
+unfoldable pub withPlace : Declares → ℕ → List ℕ → List ℕ
+withPlace (length-of n) at places = places
+withPlace (params-of p) at places = at ∷ places
+withPlace nothing at places = places
+
+unfoldable pub placesOf : ℕ → Code → List ℕ
+placesOf at [] = []
+placesOf at (x ∷ c) = withPlace (declares x) at (placesOf (suc at) c)
+
+-- the tape was checked
+unfoldable pub isAccepted : Checked → Bool
+isAccepted (Accepted steps) = true
+isAccepted (Refused number place) = false
 
 -- ---- whether the record at hand counts nothing
 unfoldable pub freeBy : Instruction → List ℕ → List ℕ → List ℕ → ℕ → Bool

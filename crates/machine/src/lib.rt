@@ -1,5 +1,6 @@
 // The machine: checks any tape and runs it on arguments and a lent memory, under a step limit.
 mod calls;
+mod layout;
 mod loops;
 mod reading;
 mod registers;

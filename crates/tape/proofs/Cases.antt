@@ -3,6 +3,7 @@ use mathlib.Core.Path.{_≡_, refl}
 use mathlib.Core.Bool.{Bool, true, false, cond}
 use Prim.Native.Nat.{ℕ}
 use borrow.Author.Tests.{eqb-true}
+use native.Mathlib.Omega.{arith}
 use lib.Dec.{eqb}
 use Rattle.word.specs.declared.Record.{Record}
 use Rattle.tape.specs.Instruction.{Instruction, program, array, cfunc, lit, var, get, not, bin, call, def, set, put, for, end, ret, other, read}
@@ -85,3 +86,51 @@ read-array x e = rw e refl
 pub read-program : (x : Record) → x .kind ≡ 1 → read x ≡ program (x .p) (x .q)
 unfolding read
 read-program x e = rw e refl
+
+-- ---- and back: what the fields are, where a record says FOR, or CFUNC
+clash : {A : Type 0} → _≡_ {A = ℕ} 0 1 → A
+clash e = absurd (omega arith)
+
+pub for-fields : (x : Record) {a b c : ℕ} → read x ≡ for a b c → (x .p ≡ a) × (x .q ≡ b) × (x .r ≡ c)
+for-fields x {a} {b} {c} =
+    by-kind (λ i. i ≡ for a b c → (x .p ≡ a) × (x .q ≡ b) × (x .r ≡ c)) x
+    (record {
+      on-program = λ k e. clash (cc);
+      on-array = λ k e. clash (cc);
+      on-cfunc = λ k e. clash (cc);
+      on-lit = λ k e. clash (cc);
+      on-var = λ k e. clash (cc);
+      on-get = λ k e. clash (cc);
+      on-not = λ k e. clash (cc);
+      on-bin = λ k e. clash (cc);
+      on-call = λ k e. clash (cc);
+      on-def = λ k e. clash (cc);
+      on-set = λ k e. clash (cc);
+      on-put = λ k e. clash (cc);
+      on-for = λ k e. (cc, cc, cc);
+      on-end = λ k e. clash (cc);
+      on-ret = λ k e. clash (cc);
+      on-other = λ e. clash (cc);
+    })
+
+pub cfunc-fields : (x : Record) {a b : ℕ} → read x ≡ cfunc a b → (x .p ≡ a) × (x .q ≡ b)
+cfunc-fields x {a} {b} =
+    by-kind (λ i. i ≡ cfunc a b → (x .p ≡ a) × (x .q ≡ b)) x
+    (record {
+      on-program = λ k e. clash (cc);
+      on-array = λ k e. clash (cc);
+      on-cfunc = λ k e. (cc, cc);
+      on-lit = λ k e. clash (cc);
+      on-var = λ k e. clash (cc);
+      on-get = λ k e. clash (cc);
+      on-not = λ k e. clash (cc);
+      on-bin = λ k e. clash (cc);
+      on-call = λ k e. clash (cc);
+      on-def = λ k e. clash (cc);
+      on-set = λ k e. clash (cc);
+      on-put = λ k e. clash (cc);
+      on-for = λ k e. clash (cc);
+      on-end = λ k e. clash (cc);
+      on-ret = λ k e. clash (cc);
+      on-other = λ e. clash (cc);
+    })

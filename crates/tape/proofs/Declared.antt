@@ -19,10 +19,10 @@ use Rattle.tape.specs.declared.Checked.the-variants.{Accepted, Refused}
 use Rattle.tape.proofs.Cases.{read-array, read-program}
 use Rattle.tape.proofs.Reading.{code-from, code-length}
 use Rattle.tape.proofs.Places.{scanAt, Clean, Passed}
-use Rattle.tape.proofs.Declaring.{arraysBefore, functionsBefore, placesOf, length-at, lengths-all, entries-all}
+use Rattle.tape.proofs.Declaring.{arraysBefore, functionsBefore, length-at, lengths-all, entries-all}
 use Rattle.tape.proofs.Steady.{Fine, fine-at, both}
 use Rattle.tape.proofs.Entered.{is-array, is-program, began, Stands-at, Placed}
-use Rattle.tape.proofs.Standing.{placed-at, entry-there, place-there}
+use Rattle.tape.proofs.Standing.{placed-at, entry-there}
 
 over-by : (d : Due) (s : Scan) (n m : ℕ) → atEnd (more d) s n ≡ Accepted m → d ≡ nothing
 unfolding more atEnd
@@ -143,3 +143,16 @@ module _ (t : List ℕ) (m : ℕ) (a : Passed t m) where
 
   pub arrays-few : length (lengthsOf (codeOf t)) ≤ 8
   arrays-few = omega (arith, arrays-all, first-range)
+
+  -- and it is no longer than 4096
+  pub array-small : (n : ℕ) → n < recordAt t 0 .q → recordAt t (suc n) .p ≤ 4096
+  unfolding asks
+  array-small n h =
+      let d = array-due n h in
+      let l = goes-on (suc n) (d .1) (ap more (d .0) ∙ (unfold more in refl)) in
+      let c = a .faultless (suc n) l in
+      let r = rw (is-array-at n (d .0) (d .1)) at (c .range) in
+      leb-true (recordAt t (suc n) .p) 4096 (both (leb 1 (recordAt t (suc n) .p)) (leb (recordAt t (suc n) .p) 4096) r .1)
+
+  pub one-at-least : 0 < records t
+  one-at-least = some-record

@@ -28,16 +28,6 @@ functionsBefore zero c = 0
 functionsBefore (suc i) [] = 0
 functionsBefore (suc i) (x ∷ c) = oneFunction (declares x) (functionsBefore i c)
 
--- where each function begins, of code whose first record is the one numbered `at`
-unfoldable pub withPlace : Declares → ℕ → List ℕ → List ℕ
-withPlace (length-of n) at places = places
-withPlace (params-of p) at places = at ∷ places
-withPlace nothing at places = places
-
-unfoldable pub placesOf : ℕ → Code → List ℕ
-placesOf at [] = []
-placesOf at (x ∷ c) = withPlace (declares x) at (placesOf (suc at) c)
-
 -- ---- one record further
 array-on : (d e : Declares) (k : ℕ) → oneArray d (oneArray e k) ≡ oneArray e (oneArray d k)
 unfolding oneArray
@@ -105,20 +95,6 @@ unfolding entriesOf functionsBefore declares withEntry
 entry-at zero c e = ap (λ (d : Code). getD (entriesOf d) 0 nowhere) e
 entry-at (suc i) [] e = absurd (let z : _≡_ {A = ℕ} 0 1 = cc in omega arith)
 entry-at (suc i) (y ∷ c) e = entry-by (declares y) c (entriesOf c) (functionsBefore i c) ∙ entry-at i c e
-
-place-by : (d : Declares) (at : ℕ) (places : List ℕ) (k : ℕ) → getD (withPlace d at places) (oneFunction d k) 0 ≡ getD places k 0
-unfolding withPlace oneFunction
-place-by (length-of n) at places k = refl
-place-by (params-of p) at places k = refl
-place-by nothing at places k = refl
-
-pub place-at : (i at : ℕ) (c : Code) {p q : ℕ} {rest : Code} → drop i c ≡ cfunc p q ∷ rest → getD (placesOf at c) (functionsBefore i c) 0 ≡ i + at
-unfolding placesOf functionsBefore declares withPlace
-place-at zero at c e = let z : at ≡ 0 + at = omega arith in ap (λ (d : Code). getD (placesOf at d) 0 0) e ∙ z
-place-at (suc i) at [] e = absurd (let z : _≡_ {A = ℕ} 0 1 = cc in omega arith)
-place-at (suc i) at (y ∷ c) e =
-    let z : i + suc at ≡ suc i + at = omega arith in
-    place-by (declares y) at (placesOf (suc at) c) (functionsBefore i c) ∙ place-at i (suc at) c e ∙ z
 
 -- ---- all of them
 lengths-by : (d : Declares) (lengths : List ℕ) → length (withLength d lengths) ≡ oneArray d (length lengths)

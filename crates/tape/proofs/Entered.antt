@@ -20,7 +20,7 @@ use Rattle.tape.specs.Entries.{Entry, declares, length-of, params-of, le
 use Rattle.tape.proofs.Cases.{by-kind}
 use Rattle.tape.proofs.Reading.{code-from, code-length}
 use Rattle.tape.proofs.Places.{scanAt, Clean, Passed}
-use Rattle.tape.proofs.Declaring.{oneArray, oneFunction, arraysBefore, functionsBefore, placesOf, arrays-next, functions-next, length-at, entry-at, place-at}
+use Rattle.tape.proofs.Declaring.{oneArray, oneFunction, arraysBefore, functionsBefore, arrays-next, functions-next, length-at, entry-at}
 
 -- what a due record says of the state: which records may stand there
 pub is-body : (d : Due) (k : ℕ) → more d ≡ true → due d k ≡ true → 10 ≤ k → d ≡ aBody

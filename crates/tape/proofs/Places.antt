@@ -52,7 +52,7 @@ clean s x e =
     record { due-now = a .0; kind = b .0; unused = c .0; range = d .0; loops = f .0; operands = g .0; slot = h .0 }
 
 -- ---- an accepted tape
-never : {number place m : ℕ} → Refused number place ≡ Accepted m → ⊥
+pub never : {number place m : ℕ} → Refused number place ≡ Accepted m → ⊥
 never e = let z : _≡_ {A = ℕ} 0 1 = cc in omega arith
 
 judged : (n at m : ℕ) (rest : Checked) → judge n at rest ≡ Accepted m → (n ≡ 0) × (rest ≡ Accepted m)

@@ -17,7 +17,7 @@ use Rattle.tape.specs.Entries.{Entry, declares, lengthsOf, entriesOf, en
 use Rattle.tape.proofs.Cases.{by-kind, read-cfunc, read-array, read-program}
 use Rattle.tape.proofs.Reading.{code-from, code-length}
 use Rattle.tape.proofs.Places.{scanAt, Clean, Passed}
-use Rattle.tape.proofs.Declaring.{oneArray, oneFunction, arraysBefore, functionsBefore, placesOf, arrays-next, functions-next, length-at, entry-at, place-at, lengths-all, entries-all}
+use Rattle.tape.proofs.Declaring.{oneArray, oneFunction, arraysBefore, functionsBefore, arrays-next, functions-next, length-at, entry-at, lengths-all, entries-all}
 use Rattle.tape.proofs.Steady.{both}
 use Rattle.tape.proofs.Entered.{is-body, is-function, is-array, is-program, began, Stands-at, Placed}
 use Rattle.tape.proofs.Placing.{Counts, in-body, ended, entered, listed, began-it}
@@ -46,11 +46,11 @@ unfolding scanAt start
 empty-start t i e = rw e refl
 
 -- a record of no kind is never due
-other-kind : (x : Record) → same x (write other) ≡ true → x .kind ≡ 0
+pub other-kind : (x : Record) → same x (write other) ≡ true → x .kind ≡ 0
 unfolding same write
 other-kind x e = eqb-true (x .kind) 0 (both (eqb (x .kind) 0) _ e .0)
 
-never-due : (d : Due) (k : ℕ) → more d ≡ true → due d k ≡ true → k ≡ 0 → ⊥
+pub never-due : (d : Due) (k : ℕ) → more d ≡ true → due d k ≡ true → k ≡ 0 → ⊥
 unfolding due more
 never-due aProgram k m e z = let q = eqb-true k 1 e in omega arith
 never-due anArray k m e z = let q = eqb-true k 2 e in omega arith
@@ -96,10 +96,10 @@ placed-at t m a (suc i) h = placed-next t i h (a .faultless i h) (placed-at t m 
 
 -- ---- the entry and the place of a function whose CFUNC is there
 module _ (t : List ℕ) (m : ℕ) (a : Passed t m) {f place params slots : ℕ} (there : Stands-at t f place params slots) where
-  code-there : drop place (codeOf t) ≡ cfunc params slots ∷ drop (suc place) (codeOf t)
+  pub code-there : drop place (codeOf t) ≡ cfunc params slots ∷ drop (suc place) (codeOf t)
   code-there = code-from t place (there .there) ∙ ap (λ (i : Instruction). i ∷ drop (suc place) (codeOf t)) (there .is)
 
-  before : functionsBefore place (codeOf t) ≡ f
+  pub before : functionsBefore place (codeOf t) ≡ f
   unfolding began
   before =
       placed-at t m a place (let l = there .there in omega arith) .begun
@@ -107,8 +107,3 @@ module _ (t : List ℕ) (m : ℕ) (a : Passed t m) {f place params slots : ℕ} 
 
   pub entry-there : entryAt (codeOf t) f ≡ record { params = params; code = drop (suc place) (codeOf t) }
   entry-there = ap (entryAt (codeOf t)) (sym before) ∙ entry-at place (codeOf t) code-there
-
-  pub place-there : getD (placesOf 0 (codeOf t)) f 0 ≡ place
-  place-there =
-      let e : place + 0 ≡ place = omega arith in
-      ap (λ (g : ℕ). getD (placesOf 0 (codeOf t)) g 0) (sym before) ∙ place-at place 0 (codeOf t) code-there ∙ e

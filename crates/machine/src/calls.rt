@@ -4,19 +4,19 @@ use crate::registers::Registers;
 ghost use mathlib.Core.Path.{_≡_};
 ghost use Prim.Native.Nat.{ℕ, _+_, _-_, _<_, _≤_, _^_};
 ghost use mathlib.Core.List.{List};
-ghost use lib.ListN.{getD, set as put-at};
+ghost use lib.ListN.{length, getD, set as put-at};
 ghost use Rattle.word.specs.Records.{records, recordAt};
 ghost use Rattle.tape.specs.Instruction.{call, ret};
 ghost use Rattle.machine.specs.Flat.{count, frame, flat, flatBy, copied, Callable};
 
-// n operands from i on become the slots from j on.
-fn copy(operands: &[u32; 2048], i: usize, slots: &mut [u32; 1024], j: usize, n: usize)
-    requires { ⌜ (i + n ≤ 2048) × (j + n ≤ 1024) ⌝ }
-    ensures { λ _. ⌜ now (slots .exit) ≡ copied n (now (operands .entry)) i (now (slots .entry)) j ⌝ }
+// n values from i on become the slots from j on.
+pub(crate) fn copy(values: &[u32], i: usize, slots: &mut [u32; 1024], j: usize, n: usize)
+    requires { ⌜ (i + n ≤ length (now values)) × (j + n ≤ 1024) ⌝ }
+    ensures { λ _. ⌜ now (slots .exit) ≡ copied n (now (values .entry)) i (now (slots .entry)) j ⌝ }
 {
     let mut k = 0;
     while k < n {
-        slots[j + k] = operands[i + k];
+        slots[j + k] = values[i + k];
         k += 1;
     }
 }

@@ -41,7 +41,7 @@ element-write-bases : tie.Need-element-write-bases
 element-write-bases c = search needs
 
 copy-requires : tie.Need-copy-requires
-copy-requires c κs = omega (arith, ap (λ (x : Record). x .p) (c .before .before .before .before .«record» .ensures), c .before .before .before .before .before .before .before .pre .2 .enough, c .before .before .before .before .before .before .before .pre .2 .full, c .before .before .before .before .before .before .before .pre .2 .fits)
+copy-requires c κs = omega (arith, ap (λ (x : Record). x .p) (c .before .before .before .before .before .«record» .ensures), c .before .before .before .before .before .before .before .before .pre .2 .enough, c .before .before .before .before .before .before .before .before .pre .2 .full, c .before .before .before .before .before .before .before .before .pre .2 .fits)
 
 add-frame : tie.Need-add-frame
 add-frame c = search needs
@@ -60,7 +60,7 @@ frame-requires c κs = search needs
 
 returns : tie.Need-returns
 unfolding flatBy
-returns c p l m = rw (c .frame .ensures, c .before .before .before .copy .ensures, c .before .before .before .before .before .before .before .before .«record» .ensures) refl
+returns c p l m = rw (c .frame .ensures, c .before .before .before .copy .ensures, c .before .before .before .before .before .before .before .before .before .«record» .ensures) refl
 
 pub call-spec : {M : Type 1} → statement M
 call-spec =

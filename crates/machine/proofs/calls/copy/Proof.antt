@@ -11,15 +11,15 @@ use Rattle.machine.proofs.calls.copy.Statement.{statement}
 use Rattle.machine.proofs.calls.copy.Tie as tie
 
 abbrev Inv-loop : tie.InvT-loop
-Inv-loop operands i slots₀ j n k₀ slots k = (k ≤ n) × (copied (n - k) operands (i + k) slots (j + k) ≡ copied n operands i slots₀ j)
+Inv-loop values i slots₀ j n k₀ slots k = (k ≤ n) × (copied (n - k) values (i + k) slots (j + k) ≡ copied n values i slots₀ j)
 
 abbrev μ-loop : tie.MeasureT-loop
-μ-loop operands i slots₀ j n k₀ slots k = n - k
+μ-loop values i slots₀ j n k₀ slots k = n - k
 
 loop-holds : tie.Need-loop-holds Inv-loop μ-loop
 loop-holds c =
     let a = c .args in
-    (omega arith, copy-none (a .n) (now (a .operands)) (a .i) (now (a .slots)) (a .j))
+    (omega arith, copy-none (a .n) (now (a .values)) (a .i) (now (a .slots)) (a .j))
 
 add-slots : tie.Need-add-slots Inv-loop μ-loop
 add-slots c = omega arith
@@ -27,8 +27,8 @@ add-slots c = omega arith
 mul-slots : tie.Need-mul-slots Inv-loop μ-loop
 mul-slots c = search needs
 
-element-copy-out-slots : tie.Need-element-copy-out-slots Inv-loop μ-loop
-element-copy-out-slots c = omega arith
+shared-slice-read-slots : tie.Need-shared-slice-read-slots Inv-loop μ-loop
+shared-slice-read-slots c = omega arith
 
 add-slots-2 : tie.Need-add-slots-2 Inv-loop μ-loop
 add-slots-2 c = omega arith
@@ -49,13 +49,13 @@ loop-again : tie.Need-loop-again Inv-loop μ-loop
 loop-again c =
     let a = c .before .before .before .args in
     let l = c .before .before .loop in
-    (omega arith, sym (copy-one (a .n) (now (a .operands)) (a .i) (l .slots) (a .j) (l .k) (omega arith)) ∙ l .inv .1)
+    (omega arith, sym (copy-one (a .n) (now (a .values)) (a .i) (l .slots) (a .j) (l .k) (omega arith)) ∙ l .inv .1)
 
 returns : tie.Need-returns Inv-loop μ-loop
 returns c =
     let a = c .before .before .args in
     let l = c .before .loop in
-    sym (copy-all (a .n) (now (a .operands)) (a .i) (l .slots) (a .j) (l .k) (a .i + l .k) (a .j + l .k) (omega arith)) ∙ l .inv .1
+    sym (copy-all (a .n) (now (a .values)) (a .i) (l .slots) (a .j) (l .k) (a .i + l .k) (a .j + l .k) (omega arith)) ∙ l .inv .1
 
 pub copy-spec : {M : Type 1} → statement M
 copy-spec =
@@ -66,7 +66,7 @@ copy-spec =
     loop-holds
     add-slots
     mul-slots
-    element-copy-out-slots
+    shared-slice-read-slots
     add-slots-2
     mul-slots-2
     element-write-slots

@@ -51,7 +51,7 @@ module _ (t : List ℕ) (m : ℕ) (a : Passed t m) (funcs : List ℕ) (s : Flat)
   Δ = entryAt (codeOf t)
 
   -- in a body stands no record of another class
-  body-kind : {values : List ℕ} {τ : Slots} {L : List Loop} {F : List Frame} {w : World} → Running t s values τ L F w → 10 ≤ recordAt t (s .regs .at) .kind
+  pub body-kind : {values : List ℕ} {τ : Slots} {L : List Loop} {F : List Frame} {w : World} → Running t s values τ L F w → 10 ≤ recordAt t (s .regs .at) .kind
   unfolding due
   body-kind r =
       let i = s .regs .at in
@@ -200,7 +200,7 @@ module _ (t : List ℕ) (m : ℕ) (a : Passed t m) (funcs : List ℕ) (s : Flat)
           calls = omega arith;
         }
 
-    looping : read (recordAt t (s .regs .at)) ≡ end → Looping t (s .fors) (s .regs)
+    pub looping : read (recordAt t (s .regs .at)) ≡ end → Looping t (s .fors) (s .regs)
     unfolding asks
     looping e =
         let o = r .on in

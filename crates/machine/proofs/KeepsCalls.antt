@@ -26,17 +26,9 @@ use Rattle.machine.proofs.Piled.{Piled, bare, pile, piled-height, piled
 use Rattle.machine.proofs.Relation.{Inside, Looped, outside, On, Under, bottom, above, Stands, running, finished, Kept, looped-height, looped-same, piled-same}
 use Rattle.machine.proofs.Moving.{below-put, Sized, asked-at, scan-next, next-record, under-same, on-same, fine}
 use Rattle.machine.proofs.KeepsValues.{Running, arrive, one-more, inside-is, Here, After, room, exactly, slot-room}
+use Rattle.machine.proofs.Opening.{entering}
 use Rattle.machine.proofs.Tables.{place-there}
 use Rattle.machine.proofs.Handing.{handed, grab-handed, handed-at, piled-drop, copied-below, copied-length, copied-at}
-
--- a parameter is visible where a function begins, and nothing else
-begin-visible : (p x : ℕ) → readable (begin p x) ≡ true → x < p
-unfolding begin parameter readable
-begin-visible p x = go (ltb x p) refl
-  where
-    go : (b : Bool) → ltb x p ≡ b → readable (parameter b) ≡ true → x < p
-    go true e q = ltb-true x p e
-    go false e q = absurd (false≢true q)
 
 module _ (t : List ℕ) (m : ℕ) (a : Passed t m) (funcs : List ℕ) (s : Flat) (b : Sized s) where
   abbrev Δ : ℕ → Entry
@@ -70,10 +62,8 @@ module _ (t : List ℕ) (m : ℕ) (a : Passed t m) (funcs : List ℕ) (s : Flat)
     entered =
         let o = r₀ .on in
         let i = s .regs .at in
-        let g = scan-next t m a place (cfunc params slots) (there .is) in
         let k = asked-at t m a place (cfunc params slots) (there .there) (there .is) in
         let c = scan-next t m a i (call f) e in
-        let due-in = ap (λ (y : Scan). y .due) g in
         let due = ap (λ (y : Scan). y .due) c ∙ o .in-body in
         let h = piled-height (o .piled) in
         let d = looped-height (o .loops) in
@@ -97,21 +87,8 @@ module _ (t : List ℕ) (m : ℕ) (a : Passed t m) (funcs : List ℕ) (s : Flat)
         λ x l. copied-at params (s .operands) (n - params) (s .slots) (s .regs .top) x l (omega (arith, b .slots))
         ∙ sym (handed-at params [] (o .piled) enough x l) in
         let below : (j : ℕ) → j < s .regs .top → getD slots₁ j 0 ≡ getD (s .slots) j 0 = copied-below params (s .operands) (n - params) (s .slots) (s .regs .top) in
-        let callee : On t z (suc place) 0 (n - params) (n - params) (s .regs .loops) (s .regs .loops) (s .regs .top) (s .regs .top + slots) (s .regs .calls + 1) []
-        (fresh (handed params values [])) [] =
-        record {
-          on-tape = next-record t m a place (there .there) due-in;
-          in-body = due-in;
-          piled = bare;
-          height = omega (arith, ap (λ (y : Scan). y .body .operands) g);
-          loops = rw (ap (λ (y : Scan). y .body .loops) g) outside;
-          agree = λ x v. handing x (begin-visible params x (rw (ap (λ (y : Scan). y .body .scope) g) at v));
-          top-is = ap (λ (y : ℕ). s .regs .top + y) (sym (ap (λ (y : Scan). y .slots) g));
-          rank = omega (arith, ap (λ (y : Scan). length (y .known)) g, there .rank);
-          low-floor = omega arith;
-          low-loops = omega arith;
-          low-base = omega arith;
-        } in
+        let callee = entering t m a z (n - params) (s .regs .loops) (s .regs .top) (s .regs .calls + 1) (handed params values []) there handing (omega arith)
+        (omega arith) (omega arith) (omega arith) in
         let waiting : On t z (suc i) 1 (n - params) (r₀ .floor) (s .regs .loops) (r₀ .low) (s .regs .base) (s .regs .top) (s .regs .calls) (drop params values) τ L =
         record {
           on-tape = next-record t m a i (o .on-tape) due;

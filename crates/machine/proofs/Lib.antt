@@ -13,5 +13,12 @@ mod KeepsLoops
 mod KeepsEnds
 mod Tables
 mod Handing
+mod Opening
 mod KeepsCalls
 mod Keeps
+mod Lasting
+mod Going
+mod Beginning
+mod Answering
+mod Sofar
+mod Admitting

@@ -9,13 +9,16 @@ use lib.Dec.{ltb, eqb}
 use Rattle.word.specs.Value.{op, flip}
 use Rattle.word.specs.Code.{opOf}
 use Rattle.word.specs.Records.{records, recordAt}
-use Rattle.word.specs.Bytes.{base as startOf, fetch, store}
+use Rattle.word.specs.Bytes.{base as startOf, total, fetch, store}
 use Rattle.tape.specs.Instruction.{Instruction, Code, program, array, cfunc, lit, var, get, not, bin, call, def, set, put, for, end, ret, other, read, codeOf}
-use Rattle.tape.specs.Entries.{Declares, length-of, params-of, nothing, declares, lengthsOf}
+use Rattle.tape.specs.Entries.{Declares, length-of, params-of, nothing, declares, lengthsOf, entriesOf, exposed}
+use Rattle.tape.specs.Check.{check}
 use Rattle.tape.specs.declared.Checked.{Checked}
 use Rattle.tape.specs.declared.Checked.the-variants.{Accepted, Refused}
 use Rattle.tape.specs.Rules.{past}
 use Rattle.machine.specs.declared.registers.Registers.{Registers}
+use Rattle.machine.specs.declared.Ran.{Ran}
+use Rattle.machine.specs.declared.Ran.the-variants.{Done, Stopped}
 
 -- `fors` and `passes` hold, for each open loop, the record of its FOR and its present number; `backs` and `bases`, for each open call, the record
 -- to go back to and where the caller's slots begin
@@ -224,3 +227,29 @@ freeBy (for x q r) t fors passes loops = negated (ltb q r)
 freeBy end t fors passes loops = negated (passLeft t fors passes loops)
 freeBy (ret x) t fors passes loops = false
 freeBy other t fors passes loops = false
+
+-- ---- whether the run goes on, with so many steps at most, and its answer where it does not: a further pass of a loop counts at its FOR
+unfoldable pub goesOn : List ℕ → List ℕ → List ℕ → Registers → ℕ → Bool
+goesOn t fors passes g most =
+    pick (ltb (g .at) (records t)) (pick (ltb (g .steps) most) true (freeBy (read (recordAt t (g .at))) t fors passes (g .loops))) false
+
+unfoldable pub answerAt : List ℕ → List ℕ → List ℕ → Registers → Ran
+answerAt t fors operands g =
+    pick (ltb (g .at) (records t)) (Stopped (g .steps) (pick (eqb (recordAt t (g .at) .kind) 20) (getD fors (g .loops - 1) 0) (g .at)))
+    (Done (getD operands (g .operands - 1) 0) (g .steps))
+
+-- what `answer` requires, and what `execute` does: the tape was checked, its tables are `starts` and `funcs`, and `first` is where the exposed function
+-- begins; so many arguments and bytes are given as it takes
+pub record Ending (t fors : List ℕ) (g : Registers) : Type 0 where
+  pub few : g .steps < 2 ^ 32
+  pub size : records t ≤ 131072
+  pub looping : g .at < records t → recordAt t (g .at) .kind ≡ 20 → Looping t fors g
+  pub value : records t ≤ g .at → (1 ≤ g .operands) × (g .operands ≤ 2048)
+
+pub record Entered (t starts funcs : List ℕ) (first arguments bytes : ℕ) : Type 0 where
+  pub accepted : isAccepted (check t) ≡ true
+  pub arrays : (a : ℕ) → a < length (sizes t) → getD starts a 0 ≡ startOf (sizes t) a
+  pub functions : (f : ℕ) → getD funcs f 0 ≡ getD (placesOf 0 (codeOf t)) f 0
+  pub first-is : first ≡ getD (placesOf 0 (codeOf t)) (length (entriesOf (codeOf t)) - 1) 0
+  pub arguments-are : arguments ≡ exposed (codeOf t) .params
+  pub bytes-are : bytes ≡ total (sizes t)

@@ -44,12 +44,15 @@ unless false r rest = r
 
 -- 31: "wrong number of arguments (place 0)"; 32: "memory isn't the sum of the array lengths (place 0)"; else "a run takes a step limit and stops
 -- after exactly that many counted steps, unless it is done"
-unfoldable pub runBy : Checked → Code → List ℕ → List ℕ → ℕ → Result
-runBy (Faulty number place) c arguments memory limit = refused number place memory
-runBy (Accepted steps) c arguments memory limit =
+unfoldable pub admitted : Code → List ℕ → List ℕ → ℕ → Result
+admitted c arguments memory limit =
     unless (eqb (length arguments) (exposed c .params)) (refused 31 0 memory)
     (unless (eqb (length memory) (total (lengthsOf c))) (refused 32 0 memory)
     (resultOf c (after c arguments memory limit)))
+
+unfoldable pub runBy : Checked → Code → List ℕ → List ℕ → ℕ → Result
+runBy (Faulty number place) c arguments memory limit = refused number place memory
+runBy (Accepted steps) c arguments memory limit = admitted c arguments memory limit
 
 unfoldable pub run : List ℕ → List ℕ → List ℕ → ℕ → Result
 run t arguments memory limit = runBy (check t) (codeOf t) arguments memory limit

@@ -4,6 +4,7 @@ mod layout;
 mod loops;
 mod reading;
 mod registers;
+mod run;
 mod step;
 mod values;
 

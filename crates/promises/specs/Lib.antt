@@ -1,4 +1,5 @@
--- The cases that are computed. To be read in this order: Listing (records by name), Swatches, Refusals.
+-- The cases that are computed, and what the promises speak of. To be read in this order: Listing (records by name), Swatches, Refusals; Runs.
 pub mod Listing
 pub mod Swatches
 pub mod Refusals
+pub mod Runs

@@ -1,7 +1,7 @@
 -- The laws that other crates cite, and what the functions' proofs share. The translation is correct: Yields (how core expressions compute), Expressions
 -- (translated ones), Relation (the simulation relation), Masking, Frame, Idle, Acting, Branches, Active (a statement under it), Correct (THE THEOREM).
 -- What comes out is sound on the tape: Standing, Translated. Both, of an accepted script: Accepted. Its figures: Figures (steps), Sizes (records),
--- Heights (slots, operands), Ranges (fields).
+-- Heights (slots, operands), Ranges (fields, FORs). So its tape is within the machine's limits, and accepted: Limits.
 pub mod Computes
 pub mod Figures
 pub mod Yields
@@ -20,3 +20,4 @@ pub mod Accepted
 pub mod Sizes
 pub mod Heights
 pub mod Ranges
+pub mod Limits

@@ -1,16 +1,17 @@
 -- Every sound core tree within the limits is accepted by the check, with exactly its steps; so these are exactly the accepted tapes. Assumes nothing.
 use mathlib.Core.Path.{_≡_, refl, sym, ap, _∙_}
-use mathlib.Core.Bool.{true, cond, and-eq-true-iff}
+use mathlib.Core.Bool.{cond, and-eq-true-iff}
 use mathlib.Core.Bool as bool
 use mathlib.Core.List.{List, [], _∷_, _++_, map}
 use mathlib.Core.Logic.{_↔_}
-use Prim.Native.Nat.{ℕ, zero, suc, _+_, _-_, _/_, _%_, _≤_}
+use Prim.Native.Nat.{ℕ, zero, suc, _+_, _-_, _≤_}
 use native.Mathlib.Nat.{zero-add}
 use native.Mathlib.Omega.{arith}
 use borrow.Author.Tests.{lt-ltb, le-ltb, le-leb, eq-eqb, ne-eqb}
 use lib.Dec.{ltb, eqb}
 use lib.ListN.{length, getD, length-append, length-map}
-use Rattle.word.specs.Records.{sized}
+use Rattle.word.specs.Records.{wordsOf}
+use Rattle.word.proofs.Records.{records-words, words-length, sized-iff}
 use Rattle.word.specs.Slots.{begin}
 use Rattle.tape.specs.Core.{CFunc, CProgram}
 use Rattle.tape.specs.Instruction.{Code, program, array, cfunc, ret, write, words}
@@ -20,7 +21,6 @@ use Rattle.tape.specs.Scan.{Due, anArray, aFunction, nothing, Known, Sca
 use Rattle.tape.specs.Faults.{due, more, asks}
 use Rattle.tape.specs.Check.{atEnd, scan, check}
 use Rattle.tape.specs.declared.Checked.the-variants.{Accepted}
-use Rattle.tape.proofs.Written.{records-words, words-length}
 use Rattle.tape.proofs.Sound.{afterS, SoundF, SoundFrom, the-last, one-more, paramsAt, Sound}
 use Rattle.tape.proofs.Limits.{Each, none, one, FitsF, Limits}
 use Rattle.tape.proofs.Asked.{Met, just-iff}
@@ -144,19 +144,12 @@ scanned p h l =
     goes-on start 0 (program (length fs) (length ns)) (tapeArrays ns (tapeFs fs)) refl refl fine
     ∙ a .is ∙ b .is ∙ ended p l (b .state) (b .place) (b .now) (b .knows)
 
--- 21: so many words are whole records
-sized-true : (n m : ℕ) → m ≡ n + n + n + n → 1 ≤ n → n ≤ 131072 → sized 131072 m ≡ true
-unfolding sized
-sized-true n m e some few =
-    let whole : m % 4 ≡ 0 = omega arith in
-    let not-none = ap bool.not (ne-eqb m 0 (λ z. omega arith)) in
-    and-eq-true-iff _ _ .1 (not-none, and-eq-true-iff _ _ .1 (eq-eqb (m % 4) 0 whole, le-leb (m / 4) 131072 (omega arith)))
-
 pub admitted : (p : CProgram) → Sound p → Limits p → check (tape p) ≡ Accepted (stepsExposed p)
 unfolding check tape words instructions
 admitted p h l =
     let xs = map write (instructions p) in
-    let size = sized-true (length (instructions p)) _ (simp length-map at (words-length xs)) (omega arith) (l .records) in
+    let four = simp length-map at (words-length xs) in
+    let size = sized-iff 131072 (length (wordsOf xs)) .1 (omega arith, omega arith, omega (arith, l .records)) in
     rw (size, records-words xs) (scanned p h l)
 
 -- a tape is accepted exactly if it is the tape of such a tree

@@ -1,7 +1,7 @@
 -- The laws that other crates cite, and what the functions' proofs share. A record by itself: Cases, Reading, Written (words and code), Declaring. The
 -- check: Closing, Places (the scan's state before each record), Steady (its ranges), Entered, Placing, Standing (where functions and arrays stand), Declared
 -- (the exposed function, the arrays), Skipping (past a loop), Asked (what a record asks for). Core trees: Meaning, Sound, Costs, Staying (what stays visible),
--- Sizes (records), Heights (operands), Ranged (fields), Limits (what the check asks of a tree). What the check accepts: Knowing, Waiting, Half, Finished, Stands,
+-- Sizes (records), Limits (what the check asks of a tree). What the check accepts: Knowing, Waiting, Half, Finished, Stands,
 -- Postfix (the trees of a tape that is read half), Accepted (an accepted tape is that of a sound tree within the limits), Scanning, Admitted (and each such
 -- tree's tape is accepted). The rules: Tails, Settling, Running (counted steps), Entering, Follows (on the tape of a tree they do what the tree means),
 -- Counted, Alike (lockstep), Worded (values stay words).
@@ -23,8 +23,6 @@ pub mod Sound
 pub mod Costs
 pub mod Staying
 pub mod Sizes
-pub mod Heights
-pub mod Ranged
 pub mod Limits
 pub mod Asked
 pub mod Knowing

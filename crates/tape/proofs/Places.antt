@@ -1,21 +1,19 @@
 -- The scan's state before each record of a tape; and what an accepted tape has at each: no fault. Assumes nothing.
 use mathlib.Core.Path.{_≡_, refl, subst}
-use mathlib.Core.Bool.{Bool, true, false, cond, not, _&&_, false≢true}
-use mathlib.Core.List.{List, [], _∷_}
+use mathlib.Core.Bool.{Bool, true, false, cond}
+use mathlib.Core.List.{List}
 use mathlib.Core.Logic.{⊎-elim}
-use Prim.Native.Nat.{ℕ, zero, suc, _+_, _-_, _/_, _%_, _≤_, _<_}
+use Prim.Native.Nat.{ℕ, zero, suc, _+_, _≤_, _<_}
 use native.Mathlib.Numerals.{add-one}
 use native.Mathlib.Nat.{eq-or-lt-of-le}
 use native.Mathlib.Omega.{arith}
-use borrow.Author.Tests.{leb-true, eqb-true}
-use lib.Dec.{leb, eqb}
 use lib.ListN.{length, drop, drop-of-length-le}
 use Rattle.word.specs.Records.{records, recordAt, recordsOf, same, sized}
 use Rattle.word.specs.declared.Record.{Record}
-use Rattle.word.proofs.Records.{records-length, records-from}
+use Rattle.word.proofs.Records.{records-length, records-from, sized-iff}
 use Rattle.tape.specs.Instruction.{read, write}
 use Rattle.tape.specs.Scan.{Scan, start, next}
-use Rattle.tape.specs.Faults.{due, more, Asked, asks, unless, unmet, fault}
+use Rattle.tape.specs.Faults.{due, more, asks, unless, unmet, fault}
 use Rattle.tape.specs.Check.{atEnd, judge, scan, check}
 use Rattle.tape.specs.declared.Checked.{Checked}
 use Rattle.tape.specs.declared.Checked.the-variants.{Accepted, Refused}
@@ -64,10 +62,6 @@ sized-or : (b : Bool) (rest : Checked) (m : ℕ) → cond b rest (Refused 21 0) 
 sized-or true rest m e = (refl, e)
 sized-or false rest m e = absurd (never e)
 
-both : (a b : Bool) → (a && b) ≡ true → (a ≡ true) × (b ≡ true)
-both true b e = (refl, e)
-both false b e = absurd (false≢true e)
-
 -- whole records, few enough; no record with a fault; and how it ends
 pub record Passed (t : List ℕ) (m : ℕ) : Type 0 where
   pub whole : length t ≡ records t + records t + records t + records t
@@ -99,15 +93,14 @@ walk t m (suc n) i l e =
     }
 
 pub passed : (t : List ℕ) (m : ℕ) → check t ≡ Accepted m → Passed t m
-unfolding check sized scanAt
+unfolding check scanAt
 passed t m e =
     let g = sized-or (sized 131072 (length t)) (scan start 0 (recordsOf t)) m e in
-    let a = both (not (eqb (length t) 0)) _ (g .0) in
-    let b = both (eqb (length t % 4) 0) (leb (length t / 4) 131072) (a .1) in
+    let a = sized-iff 131072 (length t) .0 (g .0) in
     let rest = walk t m (records t) 0 (omega arith) (g .1) in
     record {
-      whole = omega (arith, eqb-true (length t % 4) 0 (b .0));
-      few = leb-true (length t / 4) 131072 (b .1);
+      whole = omega (arith, a .1);
+      few = a .2;
       faultless = λ i h. rest .faultless i (omega arith) h;
       ends = rest .ends;
     }

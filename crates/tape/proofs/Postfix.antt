@@ -1,45 +1,28 @@
 -- Where the scan of a tape stands, told by trees: each record without a fault takes the trees read so far to the next ones. Assumes nothing.
-use mathlib.Core.Path.{_≡_, refl, sym, ap, _∙_}
-use mathlib.Core.Bool.{Bool, true, false, cond, _&&_, false≢true, and-eq-true-iff}
+use mathlib.Core.Path.{_≡_, sym, ap, _∙_}
+use mathlib.Core.Bool.{Bool, true, _&&_, false≢true, and-eq-true-iff}
 use mathlib.Core.List.{_∷_}
 use Prim.Native.Nat.{ℕ, suc, _-_, _≤_, _<_}
 use native.Mathlib.Omega.{arith}
-use borrow.Author.Tests.{eqb-true, eqb-false, leb-true, ltb-true}
-use lib.Dec.{ltb, leb, eqb}
+use borrow.Author.Tests.{eqb-true, leb-true, ltb-true}
+use lib.Dec.{ltb, leb}
 use lib.ListN.{length, getD}
 use Rattle.word.specs.Slots.{Seen, upd, defined, Scope}
-use Rattle.word.specs.Code.{code, opOf}
-use Rattle.word.specs.Value.{Op}
+use Rattle.word.specs.Code.{opOf}
 use Rattle.word.specs.declared.Record.{Record}
+use Rattle.word.proofs.Laws.{code-op}
+use Rattle.word.proofs.Records.{same-true}
 use Rattle.tape.specs.Instruction.{Instruction, Code, program, array, cfunc, lit, var, get, not, bin, call, def, set, put, for, end, ret, other, read, write}
 use Rattle.tape.specs.Scan.{aBody, Body, Scan, inBody, next}
 use Rattle.tape.specs.Faults.{due, more, takes, just, readable, settable, definable, asks}
 use Rattle.tape.proofs.Places.{Clean}
-use Rattle.tape.proofs.Written.{same-true}
+use Rattle.tape.proofs.Cases.{read-program, read-array, read-cfunc}
 use Rattle.tape.proofs.Asked.{Met, takes-iff, just-iff}
 use Rattle.tape.proofs.Sound.{afterS}
 use Rattle.tape.proofs.Knowing.{unknown, knows-steps}
 use Rattle.tape.proofs.Waiting.{lit-pushed, var-pushed, get-pushed, not-pushed, bin-pushed, call-pushed, def-stated, set-stated, put-stated, none-waits}
 use Rattle.tape.proofs.Half.{Onward, pushed, stated, opened, closed}
 use Rattle.tape.proofs.Stands.{Inside, Stands, program-due, array-due, function-due, body-due, nothing-due, on-program, on-array, on-cfunc, on-ret}
-
--- an operation code is that of an operator
-choose : (P : Op → Type 0) (o n : ℕ) {a b : Op} → n ≤ o → (n ≡ o → P a) → (suc n ≤ o → P b) → P (cond (eqb o n) a b)
-choose P o n {a} {b} l h k = by (eqb o n) refl
-  where
-    by : (t : Bool) → eqb o n ≡ t → P (cond t a b)
-    by true e = h (sym (eqb-true o n e))
-    by false e = let d = eqb-false o n e in k (omega arith)
-
-code-op : (o : ℕ) → 1 ≤ o → o ≤ 13 → code (opOf o) ≡ o
-unfolding code opOf
-code-op o l h =
-    choose P o 1 l (λ e. e) (λ l. choose P o 2 l (λ e. e) (λ l. choose P o 3 l (λ e. e) (λ l. choose P o 4 l (λ e. e) (λ l. choose P o 5 l (λ e. e)
-    (λ l. choose P o 6 l (λ e. e) (λ l. choose P o 7 l (λ e. e) (λ l. choose P o 8 l (λ e. e) (λ l. choose P o 9 l (λ e. e) (λ l. choose P o 10 l (λ e. e)
-    (λ l. choose P o 11 l (λ e. e) (λ l. choose P o 12 l (λ e. e) (λ l. choose P o 13 l (λ e. e) (λ l. absurd (omega arith))))))))))))))
-  where
-    P : Op → Type 0
-    P a = code a ≡ o
 
 ordered : (a b : ℕ) (c : Bool) → (ltb a b && c) ≡ true → (a < b) × (c ≡ true)
 ordered a b c e = let (l, h) = and-eq-true-iff (ltb a b) c .0 e in (ltb-true a b l, h)
@@ -88,7 +71,7 @@ module _ {whole rest : Code} (s : Scan) (at : ℕ) (d : s .due ≡ aBody) where
   on-body (bin o) k m b =
       let (lo, hi) = and-eq-true-iff (leb 1 o) (leb o 13) .0 (m .range) in
       let few = leb-true o 13 hi in
-      let e = code-op o (leb-true 1 o lo) few in
+      let e = code-op o (leb-true 1 o lo) (omega arith) in
       onward b (pushed (b .half) (rw e at (bin-pushed (opOf o) (b .half .waits) (there b 2 (m .operands) .0) (rw e few))))
   on-body (call f) k m b =
       let l = ltb-true f (length (s .known)) (m .range) in
@@ -122,18 +105,6 @@ module _ {whole rest : Code} (s : Scan) (at : ℕ) (d : s .due ≡ aBody) where
 -- ---- one more record, wherever the scan stands
 met : {s : Scan} {x : Record} → Clean s x → Met s (read x)
 met c = record { range = c .range; loops = c .loops; operands = c .operands; slot = c .slot }
-
-read-program : (x : Record) → x .kind ≡ 1 → read x ≡ program (x .p) (x .q)
-unfolding read
-read-program x e = rw e refl
-
-read-array : (x : Record) → x .kind ≡ 2 → read x ≡ array (x .p)
-unfolding read
-read-array x e = rw e refl
-
-read-cfunc : (x : Record) → x .kind ≡ 3 → read x ≡ cfunc (x .p) (x .q)
-unfolding read
-read-cfunc x e = rw e refl
 
 pub stands-next : {whole rest : Code} (s : Scan) (x : Record) (at : ℕ) → Clean s x → Stands whole (read x ∷ rest) s at
     → Stands whole rest (next s at (read x)) (suc at)

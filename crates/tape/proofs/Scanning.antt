@@ -2,15 +2,15 @@
 use mathlib.Core.Path.{_≡_, refl, sym, ap, subst₂, _∙_}
 use mathlib.Core.Bool.{true, and-eq-true-iff}
 use mathlib.Core.List.{List, _∷_, map}
-use Prim.Native.Nat.{ℕ, zero, suc, _+_, _-_, _*_, _≤_}
+use Prim.Native.Nat.{ℕ, suc, _+_, _-_, _*_, _≤_}
 use native.Mathlib.Nat.{zero-add}
 use native.Mathlib.Omega.{arith}
 use borrow.Author.Tests.{lt-ltb, le-leb}
 use lib.ListN.{length, getD}
-use Rattle.word.specs.Code.{code, opOf}
-use Rattle.word.specs.Value.{Op}
+use Rattle.word.specs.Code.{code}
 use Rattle.word.specs.Slots.{upd, fixed, Scope}
-use Rattle.word.proofs.Laws.{op-of-code}
+use Rattle.word.proofs.Laws.{code-range}
+use Rattle.word.proofs.Records.{same-self}
 use Rattle.tape.specs.Core.{CExpr, LIT, VAR, GET, NOT, BIN, CALL, CExprs, NONE, MORE, CStmt, SKIP, _⨾_, DEF, SET, PUT, FOR}
 use Rattle.tape.specs.Instruction.{Instruction, Code, lit, var, get, not, bin, call, def, set, put, for, end, write}
 use Rattle.tape.specs.Tape.{tapeE, tapeEs, tapeS}
@@ -18,7 +18,7 @@ use Rattle.tape.specs.Steps.{stepsE, stepsEs, stepsS}
 use Rattle.tape.specs.Scan.{Due, aBody, Open, Body, Scan, leaves, states, opens, closeBy, closes, inBody, next}
 use Rattle.tape.specs.Faults.{due, more, asks, unless, unmet, fault}
 use Rattle.tape.specs.Check.{judge, scan}
-use Rattle.tape.proofs.Written.{same-self, read-write}
+use Rattle.tape.proofs.Written.{read-write}
 use Rattle.tape.proofs.Sound.{arguments, afterS, SoundE, SoundEs, SoundS}
 use Rattle.tape.proofs.Limits.{some-height, heightE, heightEs, FitsE, FitsEs, FitsS}
 use Rattle.tape.proofs.Knowing.{unknown, Knows, knows-steps}
@@ -49,15 +49,6 @@ module _ {s : Scan} where
       → Scans s b c (bodyOf D n₁ m₁ os) c₁
   alike {b} {c} {c₁} {D} {os} p e f =
       subst₂ (λ (o z : ℕ). Scans s b c (bodyOf D o z os) c₁) e f p
-
--- no operator has code 0: that is taken as the last one's, whose code it is not
-code-some : (o : Op) → 1 ≤ code o
-unfolding code opOf
-code-some o = by (code o) refl
-  where
-    by : (n : ℕ) → code o ≡ n → 1 ≤ n
-    by zero e = let last : code o ≡ 15 = ap code (sym (op-of-code o) ∙ ap opOf e) in omega arith
-    by (suc n) e = omega arith
 
 -- in a body, after functions with these parameters and steps
 module _ (s : Scan) (d : s .due ≡ aBody) (π : ℕ → ℕ) (steps : List ℕ) (knows : Knows (s .known) π steps) where
@@ -99,7 +90,7 @@ module _ (s : Scan) (d : s .due ≡ aBody) (π : ℕ → ℕ) (steps : List ℕ)
         (alike (one not (λ at. refl) refl (record { range = refl; loops = refl; operands = t; slot = refl })) (omega arith) (omega arith))
     e-scans (BIN o a b) D n m os c h f l =
         let t = takes-iff 2 (inBody s (bodyOf D (suc (suc n)) (m + stepsE κ a + stepsE κ b) os)) .1 (omega arith, omega (arith, some-height a)) in
-        let range = and-eq-true-iff _ _ .1 (le-leb 1 (code o) (code-some o), le-leb (code o) 13 (f .0)) in
+        let range = and-eq-true-iff _ _ .1 (le-leb 1 (code o) (code-range o .0), le-leb (code o) 13 (f .0)) in
         on (e-scans a D n m os _ (h .0) (f .1) (omega arith))
         (on (e-scans b D (suc n) (m + stepsE κ a) os _ (h .1) (f .2) (omega arith))
         (alike (one (bin (code o)) (λ at. refl) refl (record { range = range; loops = refl; operands = t; slot = refl })) (omega arith) (omega arith)))

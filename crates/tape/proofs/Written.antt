@@ -1,52 +1,13 @@
 -- A tape's words and its code: each is got back from the other. Assumes nothing.
 use mathlib.Core.Path.{_≡_, refl, sym, ap, _∙_}
-use mathlib.Core.Bool.{true, and-eq-true-iff}
+use mathlib.Core.Bool.{true}
 use mathlib.Core.List.{List, [], _∷_, map}
 use Prim.Native.Nat.{ℕ, zero, suc, _+_, _<_}
 use native.Mathlib.Omega.{arith}
-use borrow.Author.Tests.{eqb-true, eq-eqb}
-use lib.Dec.{eqb}
 use lib.ListN.{length, drop, drop-of-length-le}
-use Rattle.word.specs.Records.{rec, records, recordAt, recordsOf, wordsOf, same}
-use Rattle.word.specs.declared.Record.{Record}
-use Rattle.word.proofs.Records.{records-length, records-from}
+use Rattle.word.specs.Records.{records, recordAt, recordsOf, wordsOf, same}
+use Rattle.word.proofs.Records.{records-length, records-from, words-records, records-words, same-true}
 use Rattle.tape.specs.Instruction.{Instruction, Code, program, array, cfunc, lit, var, get, not, bin, call, def, set, put, for, end, ret, other, read, write, codeOf, words}
-
--- ---- records that are the same
-pub same-true : (x y : Record) → same x y ≡ true → x ≡ y
-unfolding same
-same-true x y e =
-    let a = and-eq-true-iff (eqb (x .kind) (y .kind)) _ .0 e in
-    let b = and-eq-true-iff (eqb (x .p) (y .p)) _ .0 (a .1) in
-    let c = and-eq-true-iff (eqb (x .q) (y .q)) _ .0 (b .1) in
-    let k = eqb-true (x .kind) (y .kind) (a .0) in
-    let p = eqb-true (x .p) (y .p) (b .0) in
-    let q = eqb-true (x .q) (y .q) (c .0) in
-    let r = eqb-true (x .r) (y .r) (c .1) in
-    λ i. rec (k i) (p i) (q i) (r i)
-
-pub same-self : (x : Record) → same x x ≡ true
-unfolding same
-same-self x = rw (eq-eqb (x .kind) (x .kind) refl, eq-eqb (x .p) (x .p) refl, eq-eqb (x .q) (x .q) refl) (eq-eqb (x .r) (x .r) refl)
-
--- ---- words and records
-words-records : (t : List ℕ) → length t ≡ records t + records t + records t + records t → wordsOf (recordsOf t) ≡ t
-unfolding wordsOf recordsOf
-words-records [] e = refl
-words-records (k ∷ []) e = absurd (omega arith)
-words-records (k ∷ p ∷ []) e = absurd (omega arith)
-words-records (k ∷ p ∷ q ∷ []) e = absurd (omega arith)
-words-records (k ∷ p ∷ q ∷ r ∷ t) e = ap (λ (u : List ℕ). k ∷ p ∷ q ∷ r ∷ u) (words-records t (omega arith))
-
-pub records-words : (xs : List Record) → recordsOf (wordsOf xs) ≡ xs
-unfolding wordsOf recordsOf
-records-words [] = refl
-records-words (x ∷ xs) = ap (x ∷_) (records-words xs)
-
-pub words-length : (xs : List Record) → length (wordsOf xs) ≡ length xs + length xs + length xs + length xs
-unfolding wordsOf
-words-length [] = refl
-words-length (x ∷ xs) = omega (arith, words-length xs)
 
 -- ---- a tape in which each record is the one of its instruction is written again from its code
 module _ (t : List ℕ) (h : (i : ℕ) → i < records t → same (recordAt t i) (write (read (recordAt t i))) ≡ true) where

@@ -1,10 +1,11 @@
 -- The operators' laws over words: masks, ranges, types. Each is proved here once. Assumes nothing.
 use mathlib.Core.Path.{_≡_, refl, sym, ap, ap₂, _∙_}
-use mathlib.Core.Bool.{Bool, true, false, not, _&&_, _||_}
-use Prim.Native.Nat.{ℕ, _+_, _-_, _*_, _/_, _%_, _^_, _<_}
+use mathlib.Core.Bool.{Bool, true, false, cond, not, _&&_, _||_}
+use Prim.Native.Nat.{ℕ, suc, _+_, _-_, _*_, _/_, _%_, _^_, _≤_, _<_}
 use native.Mathlib.Nat.{mod-lt, mod-eq-of-lt, lt-of-le-of-lt, div-le-self}
 use native.Mathlib.Omega.{arith}
-use lib.Dec.{T, leb, ltb, eqb, lit<}
+use borrow.Author.Tests.{eqb-true, eqb-false}
+use lib.Dec.{T, leb, ltb, eqb, lit<, lit≤}
 use lib.Bits.{and-zero-r, or-zero-r, and-comm, and-mask, and-lt, or-lt}
 use Rattle.word.specs.Value.{TRUE, FALSE, mask, truth, Op, add, sub, mul, shl, shr, and, or, eq, ne, gt, lt, ge, le, land, lor, op, flip, negate, left, leftBy, right, rightBy}
 use Rattle.word.specs.Code.{code, opOf}
@@ -191,3 +192,42 @@ op-of-code ge = refl
 op-of-code le = refl
 op-of-code land = refl
 op-of-code lor = refl
+
+pub code-range : (o : Op) → (1 ≤ code o) × (code o ≤ 15)
+unfolding code
+code-range add = (lit≤ tt, lit≤ tt)
+code-range sub = (lit≤ tt, lit≤ tt)
+code-range mul = (lit≤ tt, lit≤ tt)
+code-range shl = (lit≤ tt, lit≤ tt)
+code-range shr = (lit≤ tt, lit≤ tt)
+code-range and = (lit≤ tt, lit≤ tt)
+code-range or = (lit≤ tt, lit≤ tt)
+code-range eq = (lit≤ tt, lit≤ tt)
+code-range ne = (lit≤ tt, lit≤ tt)
+code-range gt = (lit≤ tt, lit≤ tt)
+code-range lt = (lit≤ tt, lit≤ tt)
+code-range ge = (lit≤ tt, lit≤ tt)
+code-range le = (lit≤ tt, lit≤ tt)
+code-range land = (lit≤ tt, lit≤ tt)
+code-range lor = (lit≤ tt, lit≤ tt)
+
+-- a code in that range is an operator's
+choose : (P : Op → Type 0) (o n : ℕ) {a b : Op} → n ≤ o → (n ≡ o → P a) → (suc n ≤ o → P b) → P (cond (eqb o n) a b)
+choose P o n {a} {b} l h k = by (eqb o n) refl
+  where
+    by : (t : Bool) → eqb o n ≡ t → P (cond t a b)
+    by true e = h (sym (eqb-true o n e))
+    by false e = let d = eqb-false o n e in k (omega arith)
+
+pub code-op : (o : ℕ) → 1 ≤ o → o ≤ 15 → code (opOf o) ≡ o
+unfolding code opOf
+code-op o l h =
+    choose P o 1 l (λ e. e) (λ l. choose P o 2 l (λ e. e) (λ l. choose P o 3 l (λ e. e) (λ l. choose P o 4 l (λ e. e) (λ l. choose P o 5 l (λ e. e)
+    (λ l. choose P o 6 l (λ e. e) (λ l. choose P o 7 l (λ e. e) (λ l. choose P o 8 l (λ e. e) (λ l. choose P o 9 l (λ e. e) (λ l. choose P o 10 l (λ e. e)
+    (λ l. choose P o 11 l (λ e. e) (λ l. choose P o 12 l (λ e. e) (λ l. choose P o 13 l (λ e. e) (λ l. choose P o 14 l (λ e. e) (λ l. last l))))))))))))))
+  where
+    P : Op → Type 0
+    P a = code a ≡ o
+
+    last : 15 ≤ o → P lor
+    last l = omega arith

@@ -1,3 +1,5 @@
 pub mod Computes
 pub mod Swatches
 pub mod Runs
+pub mod Compiles
+pub mod Refuses

@@ -17,7 +17,7 @@ use Rattle.tape.specs.Rules.{World, Loop, Frame, Machine, at, halted, Turn, fre
 use Rattle.tape.proofs.Cases.{by-kind, read-end}
 use Rattle.tape.proofs.Reading.{code-from, code-length}
 use Rattle.tape.proofs.Places.{Passed}
-use Rattle.tape.proofs.Standing.{other-kind}
+use Rattle.tape.proofs.Positions.{other-kind}
 use Rattle.tape.proofs.Settling.{stands-here, stands-halted}
 use Rattle.machine.specs.Flat.{Flat, sizes, pick, placesOf, goesOn, answerAt, Ending, Ready, Looping, Stored}
 use Rattle.machine.specs.Run.{Result, after, resultOf}

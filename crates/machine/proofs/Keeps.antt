@@ -20,7 +20,7 @@ use Rattle.tape.proofs.Cases.{by-kind, cfunc-fields, for-fields}
 use Rattle.tape.proofs.Reading.{code-from, code-length}
 use Rattle.tape.proofs.Places.{scanAt, Passed}
 use Rattle.tape.proofs.Entered.{Stands-at, Placed}
-use Rattle.tape.proofs.Standing.{placed-at, other-kind}
+use Rattle.tape.proofs.Positions.{placed-at, other-kind}
 use Rattle.tape.proofs.Declared.{arrays-here}
 use Rattle.tape.proofs.Steady.{Asks, Fine, both}
 use Rattle.machine.specs.Flat.{Flat, flat, free, count, frame, sizes, pick, copied, passLeft, flatBy, freeBy, Room, Callable, Looping, Stored, Ready}

@@ -19,7 +19,7 @@ use Rattle.tape.specs.Rules.{World, Loop, Frame, Machine, at, halted, tick, gra
 use Rattle.tape.proofs.Cases.{cfunc-fields}
 use Rattle.tape.proofs.Places.{scanAt, Passed}
 use Rattle.tape.proofs.Entered.{Stands-at, Placed}
-use Rattle.tape.proofs.Standing.{placed-at, entry-there}
+use Rattle.tape.proofs.Positions.{placed-at, entry-there}
 use Rattle.tape.proofs.Steady.{Asks, Fine, both}
 use Rattle.machine.specs.Flat.{Flat, flat, count, frame, sizes, pick, copied, placesOf, flatBy}
 use Rattle.machine.proofs.Piled.{Piled, bare, pile, piled-height, piled-on}

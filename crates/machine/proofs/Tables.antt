@@ -24,7 +24,7 @@ use Rattle.tape.proofs.Cases.{by-kind, read-cfunc}
 use Rattle.tape.proofs.Reading.{code-from, code-length}
 use Rattle.tape.proofs.Declaring.{oneFunction, functionsBefore, functions-next, entries-all}
 use Rattle.tape.proofs.Entered.{Stands-at}
-use Rattle.tape.proofs.Standing.{code-there, before}
+use Rattle.tape.proofs.Positions.{code-there, before}
 use Rattle.tape.proofs.Declared.{exposed-there, array-at, array-small, arrays-all, arrays-few}
 use Rattle.machine.specs.Flat.{sizes, withPlace, placesOf, isAccepted, Stored}
 

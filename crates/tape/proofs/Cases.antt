@@ -54,38 +54,67 @@ by-kind P x h =
     (choose P (x .kind) 20 (h .on-end)
     (choose P (x .kind) 21 (h .on-ret) (h .on-other)))))))))))))))
 
--- and the kinds whose fields matter most
-pub read-call : (x : Record) → x .kind ≡ 15 → read x ≡ call (x .p)
-unfolding read
-read-call x e = rw e refl
+-- what a record of each kind says
+module _ (x : Record) where
+  pub read-program : x .kind ≡ 1 → read x ≡ program (x .p) (x .q)
+  unfolding read
+  read-program e = rw e refl
 
-pub read-for : (x : Record) → x .kind ≡ 19 → read x ≡ for (x .p) (x .q) (x .r)
-unfolding read
-read-for x e = rw e refl
+  pub read-array : x .kind ≡ 2 → read x ≡ array (x .p)
+  unfolding read
+  read-array e = rw e refl
 
-pub read-end : (x : Record) → x .kind ≡ 20 → read x ≡ end
-unfolding read
-read-end x e = rw e refl
+  pub read-cfunc : x .kind ≡ 3 → read x ≡ cfunc (x .p) (x .q)
+  unfolding read
+  read-cfunc e = rw e refl
 
-pub read-ret : (x : Record) → x .kind ≡ 21 → read x ≡ ret (x .p)
-unfolding read
-read-ret x e = rw e refl
+  pub read-lit : x .kind ≡ 10 → read x ≡ lit (x .p)
+  unfolding read
+  read-lit e = rw e refl
 
-pub read-lit : (x : Record) → x .kind ≡ 10 → read x ≡ lit (x .p)
-unfolding read
-read-lit x e = rw e refl
+  pub read-var : x .kind ≡ 11 → read x ≡ var (x .p)
+  unfolding read
+  read-var e = rw e refl
 
-pub read-cfunc : (x : Record) → x .kind ≡ 3 → read x ≡ cfunc (x .p) (x .q)
-unfolding read
-read-cfunc x e = rw e refl
+  pub read-get : x .kind ≡ 12 → read x ≡ get (x .p)
+  unfolding read
+  read-get e = rw e refl
 
-pub read-array : (x : Record) → x .kind ≡ 2 → read x ≡ array (x .p)
-unfolding read
-read-array x e = rw e refl
+  pub read-not : x .kind ≡ 13 → read x ≡ not
+  unfolding read
+  read-not e = rw e refl
 
-pub read-program : (x : Record) → x .kind ≡ 1 → read x ≡ program (x .p) (x .q)
-unfolding read
-read-program x e = rw e refl
+  pub read-bin : x .kind ≡ 14 → read x ≡ bin (x .p)
+  unfolding read
+  read-bin e = rw e refl
+
+  pub read-call : x .kind ≡ 15 → read x ≡ call (x .p)
+  unfolding read
+  read-call e = rw e refl
+
+  pub read-def : x .kind ≡ 16 → read x ≡ def (x .p)
+  unfolding read
+  read-def e = rw e refl
+
+  pub read-set : x .kind ≡ 17 → read x ≡ set (x .p)
+  unfolding read
+  read-set e = rw e refl
+
+  pub read-put : x .kind ≡ 18 → read x ≡ put (x .p)
+  unfolding read
+  read-put e = rw e refl
+
+  pub read-for : x .kind ≡ 19 → read x ≡ for (x .p) (x .q) (x .r)
+  unfolding read
+  read-for e = rw e refl
+
+  pub read-end : x .kind ≡ 20 → read x ≡ end
+  unfolding read
+  read-end e = rw e refl
+
+  pub read-ret : x .kind ≡ 21 → read x ≡ ret (x .p)
+  unfolding read
+  read-ret e = rw e refl
 
 -- ---- and back: what the fields are, where a record says FOR, or CFUNC
 clash : {A : Type 0} → _≡_ {A = ℕ} 0 1 → A

@@ -22,7 +22,7 @@ use Rattle.tape.proofs.Places.{scanAt, Clean, Passed}
 use Rattle.tape.proofs.Declaring.{arraysBefore, functionsBefore, length-at, lengths-all, entries-all}
 use Rattle.tape.proofs.Steady.{Fine, fine-at, both}
 use Rattle.tape.proofs.Entered.{is-array, is-program, began, Stands-at, Placed}
-use Rattle.tape.proofs.Standing.{placed-at, entry-there}
+use Rattle.tape.proofs.Positions.{placed-at, entry-there}
 
 over-by : (d : Due) (s : Scan) (n m : ℕ) → atEnd (more d) s n ≡ Accepted m → d ≡ nothing
 unfolding more atEnd

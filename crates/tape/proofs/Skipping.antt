@@ -19,7 +19,7 @@ use Rattle.tape.proofs.Cases.{by-kind}
 use Rattle.tape.proofs.Reading.{code-from}
 use Rattle.tape.proofs.Places.{scanAt, Clean, Passed}
 use Rattle.tape.proofs.Steady.{Asks, both}
-use Rattle.tape.proofs.Standing.{other-kind}
+use Rattle.tape.proofs.Positions.{other-kind}
 use Rattle.tape.proofs.Declared.{over-at-end}
 
 -- where the loop that o opened is over, of which d more are open at record i

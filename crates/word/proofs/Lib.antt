@@ -3,4 +3,5 @@ pub mod Product
 pub mod Laws
 pub mod Memory
 pub mod Records
+pub mod Walk
 pub mod Computes

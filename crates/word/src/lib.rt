@@ -1,5 +1,6 @@
 // Words: values with their operators, and the four-word records of tables and tapes.
 pub mod operators;
+pub mod reader;
 
 // Four words to a record.
 pub struct Record {

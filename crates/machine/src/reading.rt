@@ -39,8 +39,8 @@ pub(crate) fn keep(tape: &[u32], starts: &[u32; 8], memory: &mut [u8], a: u32, i
     ensures { λ _. ⌜ now (memory .exit) ≡ store (sizes (now (tape .entry))) (now (memory .entry)) a i v ⌝ }
 {
     let k = a as usize;
-    let x = record(tape, k + 1);
-    if i < x.p {
+    let array = record(tape, k + 1);
+    if i < array.p {
         let j = starts[k] as usize + i as usize;
         memory[j] = (v % 256) as u8;
     }

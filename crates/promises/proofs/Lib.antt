@@ -3,3 +3,4 @@ pub mod Swatches
 pub mod Runs
 pub mod Compiles
 pub mod Refuses
+pub mod Reductions

@@ -39,7 +39,7 @@ grabs (v ∷ vs) s us j g =
     let q : suc (length vs) + j ≡ length vs + suc j = omega arith in
     ap (λ (p : ℕ). grab p (onto vs (v ∷ s)) us g) q ∙ grabs vs (v ∷ s) us (suc j) g
 
-grab-all : (p : ℕ) (vs s : List ℕ) (g : List ℕ → List ℕ → Machine) → length vs ≡ p → grab p (onto vs s) [] g ≡ g vs s
+pub grab-all : (p : ℕ) (vs s : List ℕ) (g : List ℕ → List ℕ → Machine) → length vs ≡ p → grab p (onto vs s) [] g ≡ g vs s
 unfolding grab
 grab-all p vs s g q =
     let e : p ≡ length vs + 0 = omega arith in
@@ -218,7 +218,7 @@ from-follows lengths Δ π params Φ 𝓢 (one-more {k} {f} {g} {fs} h r) q j e 
     next : (a b : ℕ) → suc a + b ≡ a + suc b
     next a b = omega arith
 
-sound-some : {π : ℕ → ℕ} {k : ℕ} {fs : List CFunc} → SoundFrom π k fs → 0 < length fs
+pub sound-some : {π : ℕ → ℕ} {k : ℕ} {fs : List CFunc} → SoundFrom π k fs → 0 < length fs
 sound-some (the-last h) = omega arith
 sound-some (one-more h r) = omega arith
 

@@ -40,7 +40,7 @@ use Rattle.machine.specs.Run.{begin, after, resultOf, run}
 use Rattle.machine.specs.declared.Ran.the-variants.{Done}
 use Rattle.promises.specs.Compiles.{tape-left, TapeOf, takes, Faulty, by-reading, by-stage, by-room}
 use Rattle.promises.specs.Runs.{Runs}
-use Rattle.promises.proofs.Runs.{stands}
+use Rattle.promises.proofs.Runs.{stands, Counted, counted}
 
 clash : {A : Type 0} {number place n steps : ℕ} → _≡_ {A = Compiled} (Refused number place) (Tape n steps) → A
 clash e = let z : _≡_ {A = ℕ} 0 1 = cc in absurd (omega arith)
@@ -157,6 +157,10 @@ module _ (table out arguments memory : List ℕ) (n steps : ℕ) (p : Program) (
         arguments-fit = arguments-fit ∙ sym (exposed-takes p (in-range .some)) ∙ sym (ap (λ (c : Code). exposed c .params) code-is);
         memory-fits = memory-fits ∙ ap total (sym (tape-lengths (translate p)) ∙ sym (ap lengthsOf code-is));
       }
+
+  -- ---- COUNTED for compiled tapes: done after exactly the steps announced, whatever the values
+  pub compiled-counted : Counted (tape-left table out n) arguments memory steps
+  compiled-counted = counted (tape-left table out n) arguments memory steps compiled-runs
 
   stages-pass : firstOf stages p ≡ Clean
   stages-pass = ap (firstOf stages) (sym same-script) ∙ tape-of-rules table out n steps given h .passes

@@ -1,33 +1,14 @@
 -- A number as a set of slots below 64: what was put into it is in it, and nothing else changes. Assumes nothing.
-use Prim.Native.Nat.{ℕ, zero, suc, _+_, _-_, _*_, _/_, _%_, _≤_, _<_, _^_}
+use Prim.Native.Nat.{ℕ, zero, suc, _/_, _%_, _<_, _^_}
 use native.Mathlib.Omega.{arith}
-use native.Mathlib.Nat.{add-zero, pow-suc, zero-div, mod-lt, div-self, div-eq-of-lt, mul-div-cancel-left, mul-add-mod-self-right}
+use native.Mathlib.Nat.{zero-div, mod-lt}
 use mathlib.Core.Path.{_≡_, refl, sym, ap, _∙_}
 use mathlib.Core.Bool.{Bool, true, false, cond, _||_}
-use borrow.Author.Tests.{lt-ltb, le-ltb, ltb-true, ltb-false, eq-eqb, ne-eqb, eqb-true, eqb-false}
+use borrow.Author.Tests.{ltb-false, eq-eqb, ne-eqb, eqb-true, eqb-false}
 use lib.Dec.{ltb, eqb}
-use lib.Pow.{pow-pos, pow-lt, pow-add}
 use lib.Bits.{bitOr, or-shr, or-mod, or-zero-r}
+use Rattle.word.proofs.Members.{digit-same, digit-other}
 use Rattle.tape.specs.Standing.{has, insert}
-
--- bit q of 2^p
-same : (p : ℕ) → 2 ^ p / 2 ^ p % 2 ≡ 1
-same p = ap (λ (n : ℕ). n % 2) (div-self (pow-pos p))
-
-even : (j : ℕ) → 2 ^ suc j % 2 ≡ 0
-even j = ap (λ (n : ℕ). n % 2) (pow-suc 2 j ∙ sym (add-zero (2 ^ j * 2))) ∙ mul-add-mod-self-right (2 ^ j) 2 0
-
-above : (q j : ℕ) → 2 ^ (q + suc j) / 2 ^ q % 2 ≡ 0
-above q j = ap (λ (n : ℕ). n / 2 ^ q % 2) (pow-add 2 q (suc j)) ∙ ap (λ (n : ℕ). n % 2) (mul-div-cancel-left (2 ^ suc j) (pow-pos q)) ∙ even j
-
-other : (p q : ℕ) (b : Bool) → (q ≡ p → ⊥) → ltb q p ≡ b → 2 ^ p / 2 ^ q % 2 ≡ 0
-other p q true d l =
-    let h = ltb-true q p l in
-    let e : p ≡ q + suc (p - q - 1) = omega arith in
-    ap (λ (n : ℕ). 2 ^ n / 2 ^ q % 2) e ∙ above q (p - q - 1)
-other p q false d l =
-    let h = ltb-false q p l in
-    ap (λ (n : ℕ). n % 2) (div-eq-of-lt (pow-lt {i = p} {j = q} (omega arith)))
 
 bit : (x : ℕ) → x < 2 → bitOr x 1 ≡ 1
 bit zero h = refl
@@ -41,11 +22,11 @@ by : (w p q : ℕ) (b : Bool) → eqb q p ≡ b → eqb (bitOr w (2 ^ p) / 2 ^ q
 by w p q true e =
     let i = eqb-true q p e in
     eq-eqb _ 1
-    (split w p q ∙ ap (λ (n : ℕ). bitOr (w / 2 ^ q % 2) (2 ^ n / 2 ^ q % 2)) (sym i) ∙ ap (λ (n : ℕ). bitOr (w / 2 ^ q % 2) n) (same q)
+    (split w p q ∙ ap (λ (n : ℕ). bitOr (w / 2 ^ q % 2) (2 ^ n / 2 ^ q % 2)) (sym i) ∙ ap (λ (n : ℕ). bitOr (w / 2 ^ q % 2) n) (digit-same q)
     ∙ bit (w / 2 ^ q % 2) (mod-lt _ (omega arith)))
 by w p q false e =
     ap (λ (n : ℕ). eqb n 1)
-    (split w p q ∙ ap (λ (n : ℕ). bitOr (w / 2 ^ q % 2) n) (other p q (ltb q p) (eqb-false q p e) refl) ∙ or-zero-r (w / 2 ^ q % 2))
+    (split w p q ∙ ap (λ (n : ℕ). bitOr (w / 2 ^ q % 2) n) (digit-other p q (ltb q p) (eqb-false q p e) refl) ∙ or-zero-r (w / 2 ^ q % 2))
 
 in-or-out : (w p q : ℕ) (b : Bool) → p < 64 → ltb q 64 ≡ b → has (insert w p) q ≡ eqb q p || has w q
 unfolding has insert

@@ -3,7 +3,7 @@ mod advance;
 pub mod check;
 mod faults;
 mod slots;
-mod standing;
+pub mod standing;
 mod turns;
 
 // Accepted, with the steps of the exposed function; or the first refusal.

@@ -1,7 +1,10 @@
-// Runs the cases of data/base.bin, whose answers were worked out elsewhere (data/FORMAT.md), and prints how many were run and how many differ from their
-// answer in any number or any byte of memory. It takes no argument and reads that one file.
+// Compiles and runs the cases of data/base.bin, whose answers were worked out elsewhere (data/FORMAT.md), and prints how many tables were compiled, how many
+// tapes were run, how many plain meanings were compared, and how many cases differ from their answer in any number, word or byte. It takes no argument and
+// reads that one file.
 mod cases;
+mod compiling;
 mod reading;
+mod running;
 
 use cases::Standing;
 use libc::STDERR_FILENO;
@@ -24,8 +27,9 @@ fn main() {
 
 fn read_cases(fd: i32, file: &mut [u8; 1600000]) {
     let n = read_all(fd, file);
-    let mut tape = [0u32; 20480];
-    report(file, n, &mut tape);
+    let mut own = [0u32; 20480];
+    let mut given = [0u32; 4096];
+    report(file, n, &mut own, &mut given);
 }
 
 // How many bytes were read, which are at most those that there is room for.
@@ -35,15 +39,17 @@ fn read_all(fd: i32, file: &mut [u8]) -> usize
     io::read_full(fd, file)
 }
 
-fn report(file: &[u8], n: usize, tape: &mut [u32])
+fn report(file: &[u8], n: usize, own: &mut [u32], given: &mut [u32])
     requires { ⌜ n ≤ length (now file) ⌝ }
 {
     if !reading::is_cases(file) {
         io::write_all(STDERR_FILENO, b"base.bin is no file of cases\n");
         return;
     }
-    let s = cases::all_cases(&file[..n], tape);
+    let s = cases::all_cases(&file[..n], own, given);
+    line(b"compiled ", s.compiled);
     line(b"run ", s.run);
+    line(b"plain ", s.plain);
     line(b"differ ", s.differ);
 }
 

@@ -57,7 +57,7 @@ fn wide(b: u8) -> u32
 }
 
 // A count, held within the room for it.
-fn held(count: u32, room: usize) -> usize
+pub fn held(count: u32, room: usize) -> usize
     ensures { λ r. ⌜ r ≤ room ⌝ }
 {
     let count = count as usize;

@@ -4,4 +4,5 @@ pub mod Laws
 pub mod Memory
 pub mod Records
 pub mod Walk
+pub mod Members
 pub mod Computes

@@ -36,6 +36,11 @@ pub data Words : List ℕ → Type 0 where
   no-word : Words []
   a-word : {v : ℕ} {s : List ℕ} → v < 2 ^ 32 → Words s → Words (v ∷ s)
 
+-- those of a lent list
+pub words-of : (s : List ℕ) → ((k : ℕ) → getD s k 0 < 2 ^ 32) → Words s
+words-of [] h = no-word
+words-of (v ∷ s) h = a-word (h 0) (words-of s (λ k. h (suc k)))
+
 pub words-val : {s : List ℕ} → Words s → (x : ℕ) → Val (getD s x 0) number
 words-val no-word x = isNumber (lit< tt)
 words-val (a-word h r) zero = isNumber h

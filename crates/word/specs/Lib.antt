@@ -1,5 +1,5 @@
 -- What every other crate speaks in. To be read in this order: Value (values and operators), Code (the operators' codes), Types,
--- Records (four words to a record), Reader (a cursor over them), Slots, Bytes (the arrays).
+-- Records (four words to a record), Reader (a cursor over them), Slots, Bytes (the arrays), Sets (of slots).
 pub mod Value
 pub mod Code
 pub mod Types
@@ -7,3 +7,4 @@ pub mod Records
 pub mod Reader
 pub mod Slots
 pub mod Bytes
+pub mod Sets

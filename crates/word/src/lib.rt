@@ -1,6 +1,7 @@
 // Words: values with their operators, and the four-word records of tables and tapes.
 pub mod operators;
 pub mod reader;
+pub mod sets;
 
 // Four words to a record.
 pub struct Record {

@@ -35,8 +35,23 @@ slice-aggregate-line-2 c = search needs
 line-requires-2 : tie.Need-line-requires-2
 line-requires-2 c κs = search needs
 
+slice-aggregate-line-3 : tie.Need-slice-aggregate-line-3
+slice-aggregate-line-3 c = search needs
+
+line-requires-3 : tie.Need-line-requires-3
+line-requires-3 c κs = search needs
+
+slice-aggregate-line-4 : tie.Need-slice-aggregate-line-4
+slice-aggregate-line-4 c = search needs
+
+line-requires-4 : tie.Need-line-requires-4
+line-requires-4 c κs = search needs
+
 same-length : tie.Need-same-length
 same-length c = search needs
+
+same-length-2 : tie.Need-same-length-2
+same-length-2 c = search needs
 
 returns-2 : tie.Need-returns-2
 returns-2 c = search needs
@@ -55,5 +70,10 @@ report-spec =
     line-requires
     slice-aggregate-line-2
     line-requires-2
+    slice-aggregate-line-3
+    line-requires-3
+    slice-aggregate-line-4
+    line-requires-4
     same-length
+    same-length-2
     returns-2)

@@ -1,4 +1,4 @@
--- `all_cases` ends, and the latest tape always fits its list. Assumes nothing.
+-- `all_cases` ends, and the latest tapes always fit their lists. Assumes nothing.
 use Prim.Native.Nat.{_-_, _≤_}
 use mathlib.Core.Path.{_≡_}
 use lib.ListN.{length}
@@ -7,10 +7,10 @@ use Rattle.vectors.proofs.cases.all_cases.Statement.{statement}
 use Rattle.vectors.proofs.cases.all_cases.Tie as tie
 
 abbrev Inv-loop : tie.InvT-loop
-Inv-loop file tape₀ n s₀ i₀ tape s i = (s .last ≤ length tape) × (length tape ≡ length tape₀)
+Inv-loop file own₀ given₀ n s₀ i₀ own given s i = (s .own ≤ length own) × (s .given ≤ length given) × (length own ≡ length own₀) × (length given ≡ length given₀)
 
 abbrev μ-loop : tie.MeasureT-loop
-μ-loop file tape₀ n s₀ i₀ tape s i = n .value - i
+μ-loop file own₀ given₀ n s₀ i₀ own given s i = n .value - i
 
 number-requires : tie.Need-number-requires Inv-loop μ-loop
 number-requires c κs = search needs
@@ -36,6 +36,9 @@ loop-again c = search needs
 same-length : tie.Need-same-length Inv-loop μ-loop
 same-length c = search needs
 
+same-length-2 : tie.Need-same-length-2 Inv-loop μ-loop
+same-length-2 c = search needs
+
 returns : tie.Need-returns Inv-loop μ-loop
 returns c = search needs
 
@@ -53,4 +56,5 @@ all-cases-spec =
     loop-less
     loop-again
     same-length
+    same-length-2
     returns)

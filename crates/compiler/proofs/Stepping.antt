@@ -1,0 +1,154 @@
+-- A walk by one record, and one of several parts: how what the code does at a record and in a loop is what the walk does. Assumes nothing.
+use mathlib.Core.Path.{_≡_, refl, ap, _∙_}
+use mathlib.Core.List.{List}
+use Prim.Native.Nat.{ℕ, suc, _+_, _-_, _*_, _≤_, _<_, min}
+use native.Mathlib.Omega.{arith}
+use borrow.Author.Tests.{le-leb, lt-leb}
+use lib.Dec.{leb}
+use lib.ListN.{length, replicate}
+use Rattle.word.specs.Reader.{readAt}
+use Rattle.word.specs.declared.Record.{Record}
+use Rattle.word.specs.declared.reader.Reader.{Reader}
+use Rattle.word.specs.declared.reader.Read.the-variants.{Found, End}
+use Rattle.script.specs.Table.{readE, readS}
+use Rattle.tape.specs.Steps.{most}
+use Rattle.compiler.specs.Translate.{Layout}
+use Rattle.compiler.specs.Emitting.{sheet, place}
+use Rattle.compiler.specs.Walking.{Desk, desk, on, times, arity, own, enterE, walkE, headS, enterS, walkS}
+use Rattle.compiler.specs.Costing.{Rolls, rolls, outcome, copyBy, copy, bodyOf, noted, enterF, walkF, orOver, walkFs, blank, enterP, walkP, answered, fitting, unlessCost, dry, writeOut}
+use Rattle.compiler.specs.declared.emitter.Emitter.{Emitter}
+use Rattle.compiler.specs.declared.Compiled.the-variants.{Tape, Refused}
+use Rattle.compiler.specs.declared.function.Cost.{Cost}
+use Rattle.compiler.specs.declared.function.Cost.the-variants.{Within, Over}
+
+-- ---- some parts of n
+module _ (f : Desk → Desk) (n i : ℕ) (z : Desk) where
+  pub times-more : i < n → times (n - i) f z ≡ times (n - (i + 1)) f (f z)
+  unfolding times
+  times-more h =
+      let e : n - i ≡ suc (n - (i + 1)) = omega arith in
+      ap (λ (k : ℕ). times k f z) e
+
+  pub times-over : n ≤ i → times (n - i) f z ≡ z
+  unfolding times
+  times-over h =
+      let e : n - i ≡ 0 = omega arith in
+      ap (λ (k : ℕ). times k f z) e
+
+-- ---- one record
+module _ (params κ t : List ℕ) where
+  pub walkE-none : (left : ℕ) (z : Desk) → left ≡ 0 → walkE params κ t left z ≡ z
+  unfolding walkE
+  walkE-none left z e = ap (λ (n : ℕ). walkE params κ t n z) e
+
+  walkE-on : (left : ℕ) (z : Desk) → 0 < left → walkE params κ t left z ≡ enterE params κ t (walkE params κ t (left - 1)) z (readAt t (z .read))
+  unfolding walkE
+  walkE-on left z h =
+      let e : left ≡ suc (left - 1) = omega arith in
+      ap (λ (n : ℕ). walkE params κ t n z) e
+
+  pub walkE-end : (left : ℕ) (z : Desk) → 0 < left → readAt t (z .read) ≡ End → walkE params κ t left z ≡ z
+  unfolding enterE
+  walkE-end left z h e = walkE-on left z h ∙ ap (enterE params κ t (walkE params κ t (left - 1)) z) e
+
+  pub walkE-found : (left : ℕ) (z : Desk) (x : Record) (i : Reader) → 0 < left → readAt t (z .read) ≡ Found x i → walkE params κ t left z
+      ≡ on (own κ (readE x)) (times (arity params (readE x)) (walkE params κ t (left - 1)) (desk (z .sheet) (i .at) (z .deepest)))
+  unfolding enterE
+  walkE-found left z x i h e = walkE-on left z h ∙ ap (enterE params κ t (walkE params κ t (left - 1)) z) e
+
+  module _ (l : Layout) where
+    pub walkS-none : (left d : ℕ) (z : Desk) → left ≡ 0 → walkS params κ t l left d z ≡ z
+    unfolding walkS
+    walkS-none left d z e = ap (λ (n : ℕ). walkS params κ t l n d z) e
+
+    walkS-on : (left d : ℕ) (z : Desk) → 0 < left
+        → walkS params κ t l left d z ≡ enterS params κ t l (walkS params κ t l (left - 1)) d z (readAt t (z .read))
+    unfolding walkS
+    walkS-on left d z h =
+        let e : left ≡ suc (left - 1) = omega arith in
+        ap (λ (n : ℕ). walkS params κ t l n d z) e
+
+    pub walkS-end : (left d : ℕ) (z : Desk) → 0 < left → readAt t (z .read) ≡ End → walkS params κ t l left d z ≡ z
+    unfolding enterS
+    walkS-end left d z h e = walkS-on left d z h ∙ ap (enterS params κ t l (walkS params κ t l (left - 1)) d z) e
+
+    pub walkS-found : (left d : ℕ) (z : Desk) (x : Record) (i : Reader) → 0 < left → readAt t (z .read) ≡ Found x i
+        → walkS params κ t l left d z ≡ headS params κ t l (walkS params κ t l (left - 1)) d (desk (z .sheet) (i .at) (z .deepest)) (readS x)
+    unfolding enterS
+    walkS-found left d z x i h e = walkS-on left d z h ∙ ap (enterS params κ t l (walkS params κ t l (left - 1)) d z) e
+
+-- ---- a whole table
+module _ (t : List ℕ) where
+  pub copy-end : (z : Desk) → readAt t (z .read) ≡ End → copy t z ≡ z
+  unfolding copy copyBy
+  copy-end z e = ap (copyBy t z) e
+
+  pub copy-found : (z : Desk) (x : Record) (i : Reader) → readAt t (z .read) ≡ Found x i → copy t z ≡ desk (place x (z .sheet)) (i .at) (z .deepest)
+  unfolding copy copyBy
+  copy-found z x i e = ap (copyBy t z) e
+
+  pub walkF-end : (f : ℕ) (z : Rolls) → readAt t (z .desk .read) ≡ End → walkF t f z ≡ z
+  unfolding walkF enterF
+  walkF-end f z e = ap (enterF t f z) e
+
+  pub walkF-found : (f : ℕ) (z : Rolls) (x : Record) (i : Reader) → readAt t (z .desk .read) ≡ Found x i
+      → walkF t f z ≡ noted t f x (bodyOf t f (min (x .q) 32) x i z) z
+  unfolding walkF enterF
+  walkF-found f z x i e = ap (enterF t f z) e
+
+  -- functions f to n
+  module _ (n f : ℕ) (z : Rolls) where
+    walkFs-first : f < n → walkFs t (n - f) f z
+        ≡ orOver (leb (walkF t f z .desk .sheet .steps) most) (z .desk .read) (walkF t f z) (walkFs t (n - (f + 1)) (f + 1) (walkF t f z))
+    unfolding walkFs
+    walkFs-first h =
+        let e : n - f ≡ suc (n - (f + 1)) = omega arith in
+        ap (λ (k : ℕ). walkFs t k f z) e
+
+    pub walkFs-on : f < n → walkF t f z .desk .sheet .steps ≤ most → walkFs t (n - f) f z ≡ walkFs t (n - (f + 1)) (f + 1) (walkF t f z)
+    unfolding orOver
+    walkFs-on h l = walkFs-first h ∙ rw (le-leb (walkF t f z .desk .sheet .steps) most l) refl
+
+    pub walkFs-over : f < n → most < walkF t f z .desk .sheet .steps
+        → walkFs t (n - f) f z ≡ outcome (Over (z .desk .read)) (walkF t f z .desk .sheet .words) (walkF t f z .depths)
+    unfolding orOver
+    walkFs-over h l = walkFs-first h ∙ rw (lt-leb (walkF t f z .desk .sheet .steps) most l) refl
+
+    pub walkFs-end : n ≤ f → walkFs t (n - f) f z ≡ outcome (Within (z .desk .sheet .at) (z .desk .sheet .steps)) (z .desk .sheet .words) (z .depths)
+    unfolding walkFs
+    walkFs-end h =
+        let e : n - f ≡ 0 = omega arith in
+        ap (λ (k : ℕ). walkFs t k f z) e
+
+-- the desk and what is kept, each row for itself
+pub rolls-alike : {z z′ : Desk} {params params′ steps steps′ depths depths′ : List ℕ} → z ≡ z′ → params ≡ params′ → steps ≡ steps′ → depths ≡ depths′
+    → rolls z params steps depths ≡ rolls z′ params′ steps′ depths′
+rolls-alike e p q r = λ i. rolls (e i) (p i) (q i) (r i)
+
+-- where the whole walk begins
+pub start-is : (out : List ℕ) (e : Emitter) (i : ℕ) → e .at ≡ 0 → e .steps ≡ 0 → i ≡ 0 → desk (sheet out e) i 0 ≡ desk (blank out) 0 0
+start-is out e i p q r = λ j. desk (record { words = out; at = p j; steps = q j }) (r j) 0
+
+pub walkP-end : (t depths out : List ℕ) → readAt t 0 ≡ End → walkP t depths out ≡ outcome (Within 0 0) out depths
+unfolding walkP enterP
+walkP-end t depths out e = ap (enterP t depths out) e
+
+pub walkP-found : (t depths out : List ℕ) (x : Record) (i : Reader) → readAt t 0 ≡ Found x i → walkP t depths out
+    ≡ walkFs t (x .p) 0 (rolls (times (x .q) (copy t) (copy t (desk (blank out) 0 0))) (replicate 16 0) (replicate 16 0) depths)
+unfolding walkP enterP
+walkP-found t depths out x i e = ap (enterP t depths out) e
+
+-- ---- the answer
+module _ (t out : List ℕ) where
+  pub answers-12 : (place : ℕ) → dry t .cost ≡ Over place → writeOut t out ≡ answered (Refused 12 place) out
+  unfolding writeOut unlessCost
+  answers-12 place e = ap (λ (k : Cost). unlessCost t out k (dry t .depths)) e
+
+  module _ (r s : ℕ) (e : dry t .cost ≡ Within r s) where
+    pub answers-13 : length out < r * 4 → writeOut t out ≡ answered (Refused 13 r) out
+    unfolding writeOut unlessCost fitting
+    answers-13 h = ap (λ (k : Cost). unlessCost t out k (dry t .depths)) e ∙ rw (lt-leb (r * 4) (length out) h) refl
+
+    pub answers-tape : r * 4 ≤ length out → writeOut t out ≡ answered (Tape r s) (walkP t (dry t .depths) out .words)
+    unfolding writeOut unlessCost fitting
+    answers-tape h = ap (λ (k : Cost). unlessCost t out k (dry t .depths)) e ∙ rw (le-leb (r * 4) (length out) h) refl

@@ -1,0 +1,24 @@
+-- `compiler::statement::open_loop` meets its contract. Assumes nothing.
+use mathlib.Core.Path.{ap, _∙_}
+use Rattle.tape.specs.Instruction.{write}
+use Rattle.compiler.specs.Emitting.{Sheet, puts, opens}
+use Rattle.compiler.specs.Walking.{desk}
+use borrow.Author.Needs.{needs}
+use Rattle.compiler.proofs.statement.open_loop.Statement.{statement}
+use Rattle.compiler.proofs.statement.open_loop.Tie as tie
+
+put-requires : tie.Need-put-requires
+put-requires c κs = search needs
+
+with-requires : tie.Need-with-requires
+with-requires c κs = search needs
+
+same-length : tie.Need-same-length
+same-length c = search needs
+
+returns : tie.Need-returns
+unfolding opens puts write
+returns c = c .with .ensures _ ∙ ap (λ (s : Sheet). desk (opens s) (c .before .before .before .before .before .before .before .args .from .reader .at) (c .before .before .before .before .before .before .before .args .from .deepest)) (c .before .before .before .put .ensures)
+
+pub open-loop-spec : {M : Type 1} → statement M
+open-loop-spec = tie.close (tie.spec put-requires with-requires same-length returns)

@@ -1,0 +1,20 @@
+-- `script::scope::scope` meets its contract: PROGRAM says where the functions begin and how many there are. Assumes nothing.
+use mathlib.Core.Path.{refl, _∙_}
+use Rattle.script.specs.Passes.{staged}
+use Rattle.script.specs.Scoped.{scoped}
+use borrow.Author.Needs.{needs}
+use Rattle.script.proofs.scope.scope.Statement.{statement}
+use Rattle.script.proofs.scope.scope.Tie as tie
+
+program-requires : tie.Need-program-requires
+program-requires c κs = search needs
+
+functions-requires : tie.Need-functions-requires
+functions-requires c κs = search needs
+
+returns : tie.Need-returns
+unfolding scoped staged
+returns c = c .functions .ensures ∙ rw (c .before .before .program .ensures) refl
+
+pub scope-spec : {M : Type 1} → statement M
+scope-spec = tie.close (tie.spec program-requires functions-requires returns)

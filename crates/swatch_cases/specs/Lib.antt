@@ -1,0 +1,1 @@
+-- The program's functions say how long their lists are, in the library's own words: there is nothing to define.

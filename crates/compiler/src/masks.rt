@@ -9,7 +9,7 @@ ghost use Rattle.compiler.specs.Emitting.{sheet, layE, masks, merges, as
 pub const TRUE: u32 = 4294967295;
 
 // C: LIT TRUE, and within each IF its condition `&` the context round it.
-pub fn context(out: &mut [u32], to: Emitter, slots: u32, ifs: u32) -> Emitter
+pub(crate) fn context(out: &mut [u32], to: Emitter, slots: u32, ifs: u32) -> Emitter
     requires { ⌜ (slots ≤ 32) × (ifs ≤ 16) ⌝ }
     ensures { λ e. ⌜ ((κ : List ℕ) → sheet (now (out .exit)) e ≡ layE κ (context (layout slots) ifs) (sheet (now (out .entry)) to)) ⌝ }
 {
@@ -33,7 +33,7 @@ fn mask(out: &mut [u32], to: Emitter, slots: u32, ifs: u32) -> Emitter
 }
 
 // A new value `&` M.
-pub fn masked(out: &mut [u32], to: Emitter, slots: u32, ifs: u32) -> Emitter
+pub(crate) fn masked(out: &mut [u32], to: Emitter, slots: u32, ifs: u32) -> Emitter
     requires { ⌜ (slots ≤ 32) × (ifs ≤ 16) ⌝ }
     ensures { λ e. ⌜ sheet (now (out .exit)) e ≡ masks (layout slots) ifs (sheet (now (out .entry)) to) ⌝ }
 {
@@ -42,7 +42,7 @@ pub fn masked(out: &mut [u32], to: Emitter, slots: u32, ifs: u32) -> Emitter
 }
 
 // `|` the old value, where M is FALSE.
-pub fn merged(out: &mut [u32], to: Emitter, slots: u32, ifs: u32) -> Emitter
+pub(crate) fn merged(out: &mut [u32], to: Emitter, slots: u32, ifs: u32) -> Emitter
     requires { ⌜ (slots ≤ 32) × (ifs ≤ 16) ⌝ }
     ensures { λ e. ⌜ sheet (now (out .exit)) e ≡ merges (layout slots) ifs (sheet (now (out .entry)) to) ⌝ }
 {
@@ -53,7 +53,7 @@ pub fn merged(out: &mut [u32], to: Emitter, slots: u32, ifs: u32) -> Emitter
 }
 
 // SET x, behind the expression.
-pub fn assign(out: &mut [u32], to: Emitter, slots: u32, ifs: u32, x: u32) -> Emitter
+pub(crate) fn assign(out: &mut [u32], to: Emitter, slots: u32, ifs: u32, x: u32) -> Emitter
     requires { ⌜ (slots ≤ 32) × (ifs ≤ 16) ⌝ }
     ensures { λ e. ⌜ sheet (now (out .exit)) e ≡ assigns (layout slots) ifs x (sheet (now (out .entry)) to) ⌝ }
 {
@@ -64,7 +64,7 @@ pub fn assign(out: &mut [u32], to: Emitter, slots: u32, ifs: u32, x: u32) -> Emi
 }
 
 // PUT a, behind the masked value and the index, which was written a second time.
-pub fn store_at(out: &mut [u32], to: Emitter, slots: u32, ifs: u32, a: u32) -> Emitter
+pub(crate) fn store_at(out: &mut [u32], to: Emitter, slots: u32, ifs: u32, a: u32) -> Emitter
     requires { ⌜ (slots ≤ 32) × (ifs ≤ 16) ⌝ }
     ensures { λ e. ⌜ sheet (now (out .exit)) e ≡ stores (layout slots) ifs a (sheet (now (out .entry)) to) ⌝ }
 {
@@ -74,7 +74,7 @@ pub fn store_at(out: &mut [u32], to: Emitter, slots: u32, ifs: u32, a: u32) -> E
 }
 
 // RETURN, behind the expression: rval, and rnset.
-pub fn give(out: &mut [u32], to: Emitter, slots: u32, ifs: u32) -> Emitter
+pub(crate) fn give(out: &mut [u32], to: Emitter, slots: u32, ifs: u32) -> Emitter
     requires { ⌜ (slots ≤ 32) × (ifs ≤ 16) ⌝ }
     ensures { λ e. ⌜ sheet (now (out .exit)) e ≡ gives (layout slots) ifs (sheet (now (out .entry)) to) ⌝ }
 {
@@ -90,7 +90,7 @@ pub fn give(out: &mut [u32], to: Emitter, slots: u32, ifs: u32) -> Emitter
 }
 
 // Between the branches of an IF its condition becomes its `~`.
-pub fn flip(out: &mut [u32], to: Emitter, slots: u32, ifs: u32) -> Emitter
+pub(crate) fn flip(out: &mut [u32], to: Emitter, slots: u32, ifs: u32) -> Emitter
     requires { ⌜ (slots ≤ 32) × (ifs ≤ 16) ⌝ }
     ensures { λ e. ⌜ sheet (now (out .exit)) e ≡ flips (layout slots) ifs (sheet (now (out .entry)) to) ⌝ }
 {

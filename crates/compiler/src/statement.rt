@@ -197,7 +197,7 @@ fn close_loop(out: &mut [u32], from: Walk, before: u32, q: u32, r: u32) -> Walk
 }
 
 // The statement where the walk stands, with `ifs` IFs round it, which may hold others to the depth `left`, itself counted.
-pub fn statement(
+pub(crate) fn statement(
     table: &[u32],
     params: &[u32],
     steps: &[u32],

@@ -43,8 +43,8 @@ left-is {t} {s} (running floor low o u b k) = length-drop (s .regs .at) (codeOf 
 left-is {t} {s} (finished e p q v b k) = omega arith
 
 -- what is left to do: each record makes it less
-unfoldable pub toDo : List ℕ → ℕ → ℕ → ℕ → ℕ
-toDo t limit steps i = (limit - steps) * suc (records t) + (records t - i)
+unfoldable pub workLeft : List ℕ → ℕ → ℕ → ℕ → ℕ
+workLeft t limit steps i = (limit - steps) * suc (records t) + (records t - i)
 
 -- ---- whether the run goes on
 pub goes : (t fors passes : List ℕ) (g : Registers) (limit : ℕ) → goesOn t fors passes g limit ≡ true
@@ -112,7 +112,7 @@ module _ (t : List ℕ) (m : ℕ) (a : Passed t m) (funcs arguments memory : Lis
 
     -- what is further on, or has counted
     abbrev pub Next : Type 0
-    Next = Along z × (toDo t limit (z .regs .steps) (z .regs .at) < toDo t limit (s .regs .steps) (s .regs .at))
+    Next = Along z × (workLeft t limit (z .regs .steps) (z .regs .at) < workLeft t limit (s .regs .steps) (s .regs .at))
 
     along : stands (sizes t) (entryAt (codeOf t)) (limit - z .regs .steps) (ahead (p .machine)) ≡ after (codeOf t) arguments memory limit → z .regs .steps ≤ limit → Along z
     along e l =
@@ -120,7 +120,7 @@ module _ (t : List ℕ) (m : ℕ) (a : Passed t m) (funcs arguments memory : Lis
         record { machine = ahead (p .machine); stands-for = then; rest = e; few = l; sized = sized-after (p .sized) k; bytes = k .memory ∙ p .bytes }
 
     quietly : quiet (p .machine) ≡ true → Next
-    unfolding toDo
+    unfolding workLeft
     quietly q =
         let e : z .regs .steps ≡ s .regs .steps = sym (counter-is then) ∙ step-quiet (sizes t) (entryAt (codeOf t)) (p .machine) q ∙ counter-is (p .stands-for) in
         let f = quiet-forward (sizes t) (entryAt (codeOf t)) (p .machine) q in
@@ -130,7 +130,7 @@ module _ (t : List ℕ) (m : ℕ) (a : Passed t m) (funcs arguments memory : Lis
         )
 
     counting : quiet (p .machine) ≡ false → Next
-    unfolding toDo
+    unfolding workLeft
     counting q =
         let e : z .regs .steps ≡ suc (s .regs .steps) = sym (counter-is then) ∙ counted-one s (p .sized) on-tape (p .stands-for) q (alive then) ∙ ap suc (counter-is (p .stands-for)) in
         let l : s .regs .steps < limit = goes t (s .fors) (s .passes) (s .regs) limit g .1 (sym (quiet-is s (p .sized) on-tape (p .stands-for)) ∙ q) in

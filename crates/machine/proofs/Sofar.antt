@@ -12,7 +12,7 @@ use Rattle.machine.specs.Run.{Result, after, resultOf}
 use Rattle.machine.specs.Flat.{Flat, flat, sizes, copied, flatBy, goesOn, answerAt, Ready, Looping, Ending, Stored, Entered}
 use Rattle.machine.specs.declared.registers.Registers.{Registers}
 use Rattle.machine.proofs.Tables.{checked, stored}
-use Rattle.machine.proofs.Going.{Along, toDo, goes, along-next}
+use Rattle.machine.proofs.Going.{Along, workLeft, goes, along-next}
 use Rattle.machine.proofs.Beginning.{Head, head, first-state, begun}
 use Rattle.machine.proofs.Answering.{prepared, ends, ending, answered}
 
@@ -49,7 +49,7 @@ module _ {t starts funcs : List ℕ} {first : ℕ} {arguments memory : List ℕ}
       (stored t m a (length (s .memory)) (p .along .bytes ∙ p .entered .bytes-are) (p .entered .arrays)) (goes t (s .fors) (s .passes) (s .regs) limit g .0)
 
   pub sofar-next : {z : Flat} → goesOn t (s .fors) (s .passes) (s .regs) limit ≡ true → z ≡ flatBy t funcs (read (recordAt t (s .regs .at))) s
-      → Sofar t starts funcs first arguments memory limit z × (toDo t limit (z .regs .steps) (z .regs .at) < toDo t limit (s .regs .steps) (s .regs .at))
+      → Sofar t starts funcs first arguments memory limit z × (workLeft t limit (z .regs .steps) (z .regs .at) < workLeft t limit (s .regs .steps) (s .regs .at))
   unfolding m a
   sofar-next g e =
       let n = along-next t m a funcs arguments memory limit (p .entered .functions) s (p .along) g in

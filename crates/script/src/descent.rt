@@ -134,7 +134,7 @@ fn inside(round: Nesting, x: Record) -> Nesting
 }
 
 // So many statements, one after another, each with the depth `left`.
-pub fn statements(
+pub(crate) fn statements(
     table: &[u32],
     at: Reader,
     count: u32,

@@ -118,7 +118,7 @@ pub fn statement_fault(x: Record, room: Room) -> u32
 }
 
 // How many expressions an expression's record is followed by.
-pub fn parts_in(x: Record, params: &[u32; 16]) -> u32
+pub(crate) fn parts_in(x: Record, params: &[u32; 16]) -> u32
     requires { ⌜ (20 ≤ x .kind) × (x .kind ≤ 28) × (x .kind ≡ 28 → x .p < 16) ⌝ }
     ensures { λ r. ⌜ r ≡ partsIn (now (params .entry)) (readE x) ⌝ }
 {

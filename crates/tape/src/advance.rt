@@ -80,7 +80,7 @@ fn stated(
     }
 }
 
-pub fn advance(
+pub(crate) fn advance(
     s: Standing,
     x: Record,
     at: Reader,

@@ -132,7 +132,7 @@ fn body_fault(s: Standing, x: Record, params: &[u32; 16]) -> u32
 }
 
 // The record's fault, its lowest number, or 0.
-pub fn fault(s: Standing, x: Record, params: &[u32; 16]) -> u32
+pub(crate) fn fault(s: Standing, x: Record, params: &[u32; 16]) -> u32
     requires { ⌜ s .known ≤ 16 ⌝ }
     ensures { λ r. ⌜ ((steps places : List ℕ) (b : Bodies) → r ≡ faultBut (scanOf s (functions (now (params .entry)) steps places) b) x) ⌝ }
 {

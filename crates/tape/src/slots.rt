@@ -18,7 +18,7 @@ pub fn has(set: u64, p: u32) -> bool
     if p < 64 { (set >> p) % 2 == 1 } else { false }
 }
 
-pub fn insert(set: u64, p: u32) -> u64
+pub(crate) fn insert(set: u64, p: u32) -> u64
     requires { ⌜ p < 64 ⌝ }
     ensures { λ r. ⌜ r ≡ insert «set» p ⌝ }
 {
@@ -26,7 +26,7 @@ pub fn insert(set: u64, p: u32) -> u64
 }
 
 // What the body of a loop shows of slot p: its DEFs, and its FOR's slot.
-pub fn shown(slots: &[u32; 9], defs: &[u64; 9], d: usize, p: u32) -> u32
+pub(crate) fn shown(slots: &[u32; 9], defs: &[u64; 9], d: usize, p: u32) -> u32
     requires { ⌜ d < 9 ⌝ }
     ensures { λ r. ⌜ r ≡ rank (shownBy (now (slots .entry)) (now (defs .entry)) d p) ⌝ }
 {
@@ -37,7 +37,7 @@ pub fn shown(slots: &[u32; 9], defs: &[u64; 9], d: usize, p: u32) -> u32
 }
 
 // What is visible of slot p where the search has come to body d: what that body shows, or in the function's own its DEFs and its parameters.
-pub fn visible(slots: &[u32; 9], defs: &[u64; 9], params: u32, d: usize, p: u32) -> u32
+pub(crate) fn visible(slots: &[u32; 9], defs: &[u64; 9], params: u32, d: usize, p: u32) -> u32
     requires { ⌜ d < 9 ⌝ }
     ensures { λ r. ⌜ ((passes counts : List ℕ) → (0 < d → rank (shownBy (now (slots .entry)) (now (defs .entry)) d p) ≡ 0 → ⊥) → r ≡ rank (scopeAt params (bodies (now (slots .entry)) passes counts (now (defs .entry))) d p)) ⌝ }
 {

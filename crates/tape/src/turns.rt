@@ -17,7 +17,7 @@ ghost use Rattle.tape.specs.Standing.{Functions, Bodies, functions, bodi
 ghost use Rattle.tape.specs.Ready.{SizedF, SizedB};
 
 // PROGRAM: an ARRAY is due next where there are arrays.
-pub fn headed(x: Record, defs: &mut [u64; 9]) -> Standing
+pub(crate) fn headed(x: Record, defs: &mut [u64; 9]) -> Standing
     requires { ⌜ length (now defs) ≡ 9 ⌝ }
     ensures { λ r. ⌜ length (now (defs .exit)) ≡ 9 ⌝ }
     ensures { λ r. ⌜ ((f : Functions) (slots passes counts : List ℕ) → scanOf r f (bodies slots passes counts (now (defs .exit))) ≡ headed (x .p) (x .q)) ⌝ }
@@ -56,7 +56,7 @@ pub fn arrayed(s: Standing, at: usize) -> Standing
 }
 
 // CFUNC begins a body.
-pub fn entered(s: Standing, x: Record, at: usize, defs: &mut [u64; 9]) -> Standing
+pub(crate) fn entered(s: Standing, x: Record, at: usize, defs: &mut [u64; 9]) -> Standing
     requires { ⌜ length (now defs) ≡ 9 ⌝ }
     ensures { λ r. ⌜ length (now (defs .exit)) ≡ 9 ⌝ }
     ensures { λ r. ⌜ ((f : Functions) (slots passes counts : List ℕ) → scanOf r f (bodies slots passes counts (now (defs .exit))) ≡ enters (scanOf s f (bodies slots passes counts (now (defs .entry)))) at (x .p) (x .q)) ⌝ }
@@ -77,7 +77,7 @@ pub fn entered(s: Standing, x: Record, at: usize, defs: &mut [u64; 9]) -> Standi
 }
 
 // An expression's record takes operands and leaves its value.
-pub fn leaves(s: Standing, taken: u32, counted: u32) -> Standing
+pub(crate) fn leaves(s: Standing, taken: u32, counted: u32) -> Standing
     requires { ⌜ (taken ≤ s .operands) × (s .operands ≤ 128) ⌝ }
     ensures { λ r. ⌜ ((f : Functions) (b : Bodies) → held (scanOf r f b) ≡ held (inBody (scanOf s f b) (leaves (scanOf s f b .body) taken counted))) ⌝ }
 {
@@ -98,7 +98,7 @@ pub fn states(s: Standing) -> Standing
 }
 
 // DEF puts its slot into the set of the innermost body.
-pub fn defines(s: Standing, p: u32, defs: &mut [u64; 9]) -> Standing
+pub(crate) fn defines(s: Standing, p: u32, defs: &mut [u64; 9]) -> Standing
     requires { ⌜ (s .deep < 9) × (p < 64) × (length (now defs) ≡ 9) ⌝ }
     ensures { λ r. ⌜ length (now (defs .exit)) ≡ 9 ⌝ }
     ensures { λ r. ⌜ ((f : Functions) (slots passes counts : List ℕ) (at : ℕ) → held (scanOf r f (bodies slots passes counts (now (defs .exit)))) ≡ held (next (scanOf s f (bodies slots passes counts (now (defs .entry)))) at (def p))) ⌝ }
@@ -109,7 +109,7 @@ pub fn defines(s: Standing, p: u32, defs: &mut [u64; 9]) -> Standing
 }
 
 // FOR opens a body; the steps of the one round it wait.
-pub fn opens(
+pub(crate) fn opens(
     s: Standing,
     x: Record,
     slots: &mut [u32; 9],
@@ -134,7 +134,7 @@ pub fn opens(
 }
 
 // END closes it: each pass counted its steps and FOR's one.
-pub fn closes(s: Standing, passes: &[u32; 9], counts: &[u32; 9]) -> Standing
+pub(crate) fn closes(s: Standing, passes: &[u32; 9], counts: &[u32; 9]) -> Standing
     requires { ⌜ (0 < s .deep) × (s .deep < 9) ⌝ }
     ensures { λ r. ⌜ ((f : Functions) (slots defs : List ℕ) (at : ℕ) → held (scanOf r f (bodies slots (now (passes .entry)) (now (counts .entry)) defs)) ≡ held (next (scanOf s f (bodies slots (now (passes .entry)) (now (counts .entry)) defs)) at end)) ⌝ }
 {
@@ -147,7 +147,7 @@ pub fn closes(s: Standing, passes: &[u32; 9], counts: &[u32; 9]) -> Standing
 }
 
 // RET ends the function, which is known from now on; then a CFUNC is due, or nothing.
-pub fn returned(
+pub(crate) fn returned(
     s: Standing,
     params: &mut [u32; 16],
     steps: &mut [u32; 16],

@@ -28,7 +28,7 @@ pub struct Matched {
 
 // The output is no longer than 20,480 words, which is more than the longest tape of the file needs; a longer one would be given the same answer. The tape of an
 // accepted table becomes the latest.
-pub fn compile_case(file: &[u8], at: usize, own: &mut [u32], last: usize) -> CompiledCase
+pub(crate) fn compile_case(file: &[u8], at: usize, own: &mut [u32], last: usize) -> CompiledCase
     requires { ⌜ last ≤ length (now own) ⌝ }
     ensures { λ r. ⌜ (r .count ≤ length (now (own .exit))) × (length (now (own .exit)) ≡ length (now (own .entry))) ⌝ }
 {

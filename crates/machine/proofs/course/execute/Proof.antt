@@ -5,7 +5,7 @@ use Rattle.machine.proofs.Sofar.{Sofar, sofar-start, sofar-ends, sofar-
 use denote.Ref.{now}
 use native.Mathlib.Omega.{arith}
 use mathlib.Core.Path.{refl, sym, ap, _∙_}
-use Rattle.machine.proofs.Going.{toDo}
+use Rattle.machine.proofs.Going.{workLeft}
 use Rattle.machine.specs.Flat.{flat}
 use Rattle.machine.proofs.course.execute.Statement.{statement}
 use Rattle.machine.proofs.course.execute.Tie as tie
@@ -16,7 +16,7 @@ Inv-loop tape starts funcs first arguments memory₀ limit fors₀ passes₀ bac
 
 abbrev μ-loop : tie.MeasureT-loop
 μ-loop tape starts funcs first arguments memory₀ limit fors₀ passes₀ backs₀ bases₀ operands₀ slots₀ g₀ most memory fors passes backs bases operands slots g =
-    toDo tape limit (g .steps) (g .at)
+    workLeft tape limit (g .steps) (g .at)
 
 record-requires : tie.Need-record-requires Inv-loop μ-loop
 record-requires c κs = let s = c .before .before .before in entered-head (now (s .args .arguments)) (now (s .args .memory)) (s .pre) .there

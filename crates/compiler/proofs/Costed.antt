@@ -27,19 +27,19 @@ use Rattle.tape.specs.Instruction.{Code, program, array, write, words}
 use Rattle.tape.specs.Tape.{tapeArrays, instructions, tape}
 use Rattle.tape.specs.Steps.{most, stepsOf, stepsExposed}
 use Rattle.tape.proofs.Sizes.{tapeFs-records}
-use Rattle.compiler.specs.Translate.{FDEFT, translate}
-use Rattle.compiler.specs.Compile.{within, costs, stages, firstOf, written, unlessFault, compileBy, compile}
-use Rattle.compiler.specs.Emitting.{Sheet, place, puts, opens}
-use Rattle.compiler.specs.Walking.{Desk, desk, times}
+use Rattle.translation.specs.Translate.{FDEFT, translate}
+use Rattle.translation.specs.Compile.{within, costs, stages, firstOf, written, unlessFault, compileBy, compile}
+use Rattle.emitting.specs.Emitting.{Sheet, place, puts, opens}
+use Rattle.emitting.specs.Walking.{Desk, desk, times}
 use Rattle.compiler.specs.Costing.{rolls, copy, Outcome, outcome, walkFs, blank, walkP, answered, costOf, dry, writeOut}
-use Rattle.compiler.specs.declared.Compiled.the-variants.{Refused}
+use Rattle.translation.specs.declared.Compiled.the-variants.{Refused}
 use Rattle.compiler.specs.declared.function.Cost.the-variants.{Within as Kept, Over}
-use Rattle.compiler.proofs.Stepping.{copy-found, walkP-found, answers-12, answers-13, answers-tape}
+use Rattle.compiler.proofs.Tables.{copy-found, walkP-found, answers-12, answers-13, answers-tape}
 use Rattle.compiler.proofs.Walked.{found}
 use Rattle.compiler.proofs.Laying.{run, bare, run-fits, run-dry}
 use Rattle.compiler.proofs.Rolling.{restFrom, steps-rest, codeFs, deepsAfter, funcs-walked}
 use Rattle.compiler.proofs.Depths.{Right, deeps-right, code-right, code-records}
-use Rattle.compiler.proofs.Sizes.{tape-most}
+use Rattle.translation.proofs.Sizes.{tape-most}
 
 -- ---- PROGRAM and the arrays
 layA : List ℕ → Sheet → Sheet

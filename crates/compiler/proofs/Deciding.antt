@@ -8,11 +8,11 @@ use Rattle.script.specs.Stage.{orElse, overProgram}
 use Rattle.script.specs.Scope.{scopeF}
 use Rattle.script.specs.Types.{typeF}
 use Rattle.script.specs.Stores.{stores}
-use Rattle.script.specs.Judge.{checked, judgedBy, judged}
+use Rattle.stages.specs.Judge.{checked, judgedBy, judged}
 use Rattle.script.specs.declared.First.{First}
 use Rattle.script.specs.declared.First.the-variants.{Clean, Fault}
-use Rattle.compiler.specs.Compile.{costs, stages, firstOf, Result, unlessFault, compileBy, compile}
-use Rattle.compiler.specs.declared.Compiled.the-variants.{Refused}
+use Rattle.translation.specs.Compile.{costs, stages, firstOf, Result, unlessFault, compileBy, compile}
+use Rattle.translation.specs.declared.Compiled.the-variants.{Refused}
 
 or-clean : (a : First) → orElse a Clean ≡ a
 unfolding orElse

@@ -14,8 +14,8 @@ use Rattle.tape.specs.Tape.{tapeF, tapeFs}
 use Rattle.tape.specs.Held.{hold}
 use Rattle.tape.proofs.Counts.{hold-within}
 use Rattle.tape.proofs.Sizes.{recordsF, recordsFs, tapeS-records}
-use Rattle.compiler.specs.Translate.{depth, FDEFT}
-use Rattle.compiler.proofs.Heights.{depth-ifs}
+use Rattle.translation.specs.Translate.{depth, FDEFT}
+use Rattle.translation.proofs.Heights.{depth-ifs}
 use Rattle.compiler.proofs.Rolling.{codeF, codeFs, deepsAfter}
 
 -- the functions from f on have the depths that the row says

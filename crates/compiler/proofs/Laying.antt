@@ -14,7 +14,7 @@ use Rattle.tape.specs.Tape.{tapeE, tapeEs, tapeS}
 use Rattle.tape.specs.Steps.{most, stepsE, stepsEs, stepsS}
 use Rattle.tape.specs.Held.{hold}
 use Rattle.tape.proofs.Counts.{hold-within, hold-add, hold-hold, hold-loop}
-use Rattle.compiler.specs.Emitting.{Sheet, counted, wordsIf, place, puts, takes, opens, closes, layE, layEs, layS}
+use Rattle.emitting.specs.Emitting.{Sheet, counted, wordsIf, place, puts, takes, opens, closes, layE, layEs, layS}
 
 -- ---- words: code that is written record by record, its steps put aside
 unfoldable pub run : Code → Sheet → Sheet

@@ -1,30 +1,7 @@
--- The laws that other crates cite, and what the functions' proofs share. The translation is correct: Yields (how core expressions compute), Expressions
--- (translated ones), Relation (the simulation relation), Masking, Frame, Idle, Acting, Branches, Active (a statement under it), Correct (THE THEOREM).
--- What comes out is sound on the tape: Standing, Translated. Both, of an accepted script: Accepted. Its figures: Figures (steps), Sizes (records),
--- Heights (slots, operands), Ranges (fields, FORs). So its tape is within the machine's limits, and accepted: Limits.
--- The code: Heads (a record by its kind), Stepping (a walk by one record), Walked (over a tree's records), Laying (the words and steps of what it lays),
--- Rolling (over the functions), Depths (CFUNC's slots), Costed (12, 13 AND THE TAPE: `costed-is`, `emitted-is`, `written-is`, `compiled-is`).
-pub mod Computes
-pub mod Figures
-pub mod Yields
-pub mod Expressions
-pub mod Relation
-pub mod Masking
-pub mod Frame
-pub mod Idle
-pub mod Acting
-pub mod Branches
-pub mod Active
-pub mod Correct
-pub mod Standing
-pub mod Translated
-pub mod Accepted
-pub mod Sizes
-pub mod Heights
-pub mod Ranges
-pub mod Limits
-pub mod Heads
-pub mod Stepping
+-- What the functions' proofs share: Tables (the walk over a whole table, function by function), Walked (over a tree's records), Laying (the words and steps of
+-- what it lays), Rolling (over the functions), Depths (CFUNC's slots), Costed (12, 13 AND THE TAPE: `costed-is`, `emitted-is`, `written-is`, `compiled-is`),
+-- Deciding (the stages before it).
+pub mod Tables
 pub mod Walked
 pub mod Laying
 pub mod Rolling

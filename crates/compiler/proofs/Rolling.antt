@@ -28,14 +28,14 @@ use Rattle.tape.specs.Steps.{most, stepsS, stepsF, stepsFrom}
 use Rattle.tape.specs.Held.{hold}
 use Rattle.tape.proofs.Costs.{known-last, known-other, known-length}
 use Rattle.tape.proofs.Counts.{hold-within, hold-leb}
-use Rattle.compiler.specs.Translate.{layout, STT, depth, FDEFT}
-use Rattle.compiler.specs.Compile.{within, unlessOver as passes}
-use Rattle.compiler.specs.Emitting.{Sheet, counted, place, puts, opens, layS}
-use Rattle.compiler.specs.Walking.{Desk, desk, on}
+use Rattle.translation.specs.Translate.{layout, STT, depth, FDEFT}
+use Rattle.translation.specs.Compile.{within, unlessOver as passes}
+use Rattle.emitting.specs.Emitting.{Sheet, counted, place, puts, opens, layS}
+use Rattle.emitting.specs.Walking.{Desk, desk, on}
 use Rattle.compiler.specs.Costing.{Rolls, rolls, heads, bodyOf, noted, walkF, Outcome, outcome, orOver, walkFs}
 use Rattle.compiler.specs.declared.function.Cost.the-variants.{Within, Over}
-use Rattle.compiler.proofs.Figures.{func-steps}
-use Rattle.compiler.proofs.Stepping.{walkF-found}
+use Rattle.translation.proofs.Figures.{func-steps}
+use Rattle.compiler.proofs.Tables.{walkF-found}
 use Rattle.compiler.proofs.Walked.{found, stmt-walked}
 use Rattle.compiler.proofs.Laying.{run, run-S, steps-S, more-steps}
 

@@ -16,10 +16,10 @@ use Rattle.script.specs.Written.{countE, countS, listE, listEs, listS, listSs, 
 use Rattle.script.specs.declared.Env.{Env}
 use Rattle.script.proofs.Leading.{from, first-from, expression-lawful, statement-lawful}
 use Rattle.tape.specs.Instruction.{def as core-def, end as core-end}
-use Rattle.compiler.specs.Translate.{lowered, EXT, EXTs, layout, context, masking, merge, STT, STTs, depth, depths}
-use Rattle.compiler.specs.Emitting.{Sheet, puts, closes, layE, layEs, layS, masks, merges, assigns, stores, gives, flips}
-use Rattle.compiler.specs.Walking.{Desk, desk, on, times, deeper, looping, loweredCode, arity, own, walkE, putting, branching, headS, walkS}
-use Rattle.compiler.proofs.Stepping.{walkE-found, walkS-found}
+use Rattle.translation.specs.Translate.{lowered, EXT, EXTs, layout, context, masking, merge, STT, STTs, depth, depths}
+use Rattle.emitting.specs.Emitting.{Sheet, puts, closes, layE, layEs, layS, masks, merges, assigns, stores, gives, flips}
+use Rattle.emitting.specs.Walking.{Desk, desk, on, times, deeper, looping, loweredCode, arity, own, walkE, putting, branching, headS, walkS}
+use Rattle.emitting.proofs.Stepping.{walkE-found, walkS-found}
 
 -- a record that stands there is read
 pub found : (t : List ℕ) (at : ℕ) {x : Record} {rest : List Record} → from t at ≡ x ∷ rest

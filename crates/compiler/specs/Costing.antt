@@ -16,12 +16,12 @@ use Rattle.script.specs.declared.First.the-variants.{Clean, Fault}
 use Rattle.tape.specs.Instruction.{cfunc, lit, def, ret}
 use Rattle.tape.specs.Steps.{most}
 use Rattle.tape.specs.Held.{hold}
-use Rattle.compiler.specs.Translate.{layout}
-use Rattle.compiler.specs.Compile.{Result}
-use Rattle.compiler.specs.Emitting.{Sheet, place, puts, opens}
-use Rattle.compiler.specs.Walking.{Desk, desk, on, times, walkS}
-use Rattle.compiler.specs.declared.Compiled.{Compiled}
-use Rattle.compiler.specs.declared.Compiled.the-variants.{Tape, Refused}
+use Rattle.translation.specs.Translate.{layout}
+use Rattle.translation.specs.Compile.{Result}
+use Rattle.emitting.specs.Emitting.{Sheet, place, puts, opens}
+use Rattle.emitting.specs.Walking.{Desk, desk, on, times, walkS}
+use Rattle.translation.specs.declared.Compiled.{Compiled}
+use Rattle.translation.specs.declared.Compiled.the-variants.{Tape, Refused}
 use Rattle.compiler.specs.declared.function.Cost.{Cost}
 use Rattle.compiler.specs.declared.function.Cost.the-variants.{Within, Over}
 

@@ -1,12 +1,12 @@
 // The answer to a table that has no fault before its cost: 12, 13, or the tape.
-use crate::Compiled;
 use crate::function::Cost;
 use crate::function::translate;
+use translation::Compiled;
 ghost use mathlib.Core.Path.{_≡_};
 ghost use Prim.Native.Nat.{ℕ};
 ghost use Rattle.script.specs.Tree.{Program};
 ghost use Rattle.script.specs.Parse.{parsed, readTable};
-ghost use Rattle.compiler.specs.Compile.{costs, unlessFault};
+ghost use Rattle.translation.specs.Compile.{costs, unlessFault};
 ghost use Rattle.compiler.specs.Costing.{answered};
 
 // The walk goes over no output first, for the cost; no word is written before both limits are kept.

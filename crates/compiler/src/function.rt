@@ -1,17 +1,17 @@
 // Functions, and a whole table: what is kept of each function for those after it, and the cost.
-use crate::emitter::Emitter;
-use crate::expression::entry;
-use crate::masks::TRUE;
 use crate::statement::statement;
-use crate::walk::Walk;
-use tape::standing::sum;
+use emitting::emitter::Emitter;
+use emitting::emitter::TRUE;
+use emitting::expression::entry;
+use emitting::walk::Walk;
+use tape::held::sum;
 use word::reader::Read;
 use word::reader::Reader;
 ghost use mathlib.Core.Path.{_≡_};
 ghost use Prim.Native.Nat.{_≤_, min};
 ghost use lib.ListN.{set as keep};
-ghost use Rattle.compiler.specs.Emitting.{sheet};
-ghost use Rattle.compiler.specs.Walking.{deskOf, times};
+ghost use Rattle.emitting.specs.Emitting.{sheet};
+ghost use Rattle.emitting.specs.Walking.{deskOf, times};
 ghost use Rattle.compiler.specs.Costing.{rolls, outcome, heads, copy, walkF, walkFs, walkP};
 
 // The records needed and the exposed function's steps; or the FUNC of the first function that takes over a thousand million.

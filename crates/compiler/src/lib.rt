@@ -1,23 +1,15 @@
 // The compiler: from a table of script records to a core tape.
 mod answer;
-mod emitter;
-mod expression;
 mod function;
 mod masks;
 mod statement;
-mod walk;
 
 use answer::write_out;
 use script::First;
-use script::judge::judge;
+use stages::judge::judge;
+use translation::Compiled;
 ghost use mathlib.Core.Path.{_≡_};
-ghost use Rattle.compiler.specs.Compile.{compile};
-
-// A tape, with the records written and the exposed function's steps; or Refused.
-pub enum Compiled {
-    Tape { records: usize, steps: u32 },
-    Refused { number: u32, place: usize },
-}
+ghost use Rattle.translation.specs.Compile.{compile};
 
 // Judges the table (1 to 11), then its cost (12, 13), and writes its tape: the answer and every word of the output at exit are the definition's. A
 // refusal leaves the output as it was, and an acceptance changes the records written and no other word.

@@ -1,12 +1,11 @@
 // The context C and the mask M, and what is written with them behind an expression.
-use crate::emitter::Emitter;
+use emitting::emitter::Emitter;
+use emitting::emitter::TRUE;
 ghost use mathlib.Core.Path.{_≡_};
 ghost use mathlib.Core.List.{List};
 ghost use Prim.Native.Nat.{ℕ, _≤_};
-ghost use Rattle.compiler.specs.Translate.{layout, context, masking};
-ghost use Rattle.compiler.specs.Emitting.{sheet, layE, masks, merges, assigns, stores, gives, flips};
-
-pub const TRUE: u32 = 4294967295;
+ghost use Rattle.translation.specs.Translate.{layout, context, masking};
+ghost use Rattle.emitting.specs.Emitting.{sheet, layE, masks, merges, assigns, stores, gives, flips};
 
 // C: LIT TRUE, and within each IF its condition `&` the context round it.
 pub(crate) fn context(out: &mut [u32], to: Emitter, slots: u32, ifs: u32) -> Emitter

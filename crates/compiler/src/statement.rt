@@ -1,22 +1,22 @@
 // Statements, by the translation's clauses. A part is left with the walk past it.
-use crate::emitter::Emitter;
-use crate::expression::expression;
 use crate::masks::assign;
 use crate::masks::flip;
 use crate::masks::give;
 use crate::masks::masked;
 use crate::masks::store_at;
-use crate::walk::Walk;
-use tape::standing::with_loop;
+use emitting::emitter::Emitter;
+use emitting::expression::expression;
+use emitting::walk::Walk;
+use tape::held::with_loop;
 use word::Record;
 use word::reader::Read;
 ghost use mathlib.Core.Path.{_≡_};
 ghost use Prim.Native.Nat.{ℕ, suc, _+_, _-_, _≤_, max};
 ghost use Rattle.script.specs.Table.{readS};
 ghost use Rattle.tape.specs.Instruction.{def, for, end};
-ghost use Rattle.compiler.specs.Translate.{layout};
-ghost use Rattle.compiler.specs.Emitting.{puts, opens, closes, assigns, gives, flips};
-ghost use Rattle.compiler.specs.Walking.{Desk, on, deskOf, walkE, headS, walkS, deeper, putting};
+ghost use Rattle.translation.specs.Translate.{layout};
+ghost use Rattle.emitting.specs.Emitting.{puts, opens, closes, assigns, gives, flips};
+ghost use Rattle.emitting.specs.Walking.{Desk, on, deskOf, walkE, headS, walkS, deeper, putting};
 
 // How a FOR goes round: "q, q+1, .. r−1".
 fn passes(q: u32, r: u32) -> u32

@@ -8,9 +8,9 @@ mod registers;
 mod step;
 mod values;
 
+use checker::check::check;
 use course::admit;
 use tape::Checked;
-use tape::check::check;
 ghost use mathlib.Core.Path.{_≡_};
 ghost use Rattle.machine.specs.Run.{run};
 

@@ -30,12 +30,12 @@ use Rattle.tape.proofs.Counted.{stands-done, total-steps}
 use Rattle.tape.specs.declared.Checked.the-variants.{Accepted}
 use Rattle.tape.proofs.Written.{code-words}
 use Rattle.tape.proofs.Entering.{entryOf, lastOf, tape-lengths, tape-exposed}
-use Rattle.compiler.specs.Translate.{translate, FDEFT}
-use Rattle.compiler.specs.Compile.{Result, stages, firstOf, written, unlessFault, compileBy, compile}
-use Rattle.compiler.specs.declared.Compiled.{Compiled}
-use Rattle.compiler.specs.declared.Compiled.the-variants.{Tape, Refused}
-use Rattle.compiler.proofs.Accepted.{accepted-correct, accepted-translated}
-use Rattle.compiler.proofs.Limits.{tape-accepted as accepted-tape}
+use Rattle.translation.specs.Translate.{translate, FDEFT}
+use Rattle.translation.specs.Compile.{Result, stages, firstOf, written, unlessFault, compileBy, compile}
+use Rattle.translation.specs.declared.Compiled.{Compiled}
+use Rattle.translation.specs.declared.Compiled.the-variants.{Tape, Refused}
+use Rattle.translation.proofs.Accepted.{accepted-correct, accepted-translated}
+use Rattle.translation.proofs.Limits.{tape-accepted as accepted-tape}
 use Rattle.machine.specs.Run.{begin, after, resultOf, run}
 use Rattle.machine.specs.declared.Ran.the-variants.{Done}
 use Rattle.promises.specs.Compiles.{tape-left, TapeOf, takes, Faulty, by-reading, by-stage, by-room}

@@ -24,10 +24,10 @@ use Rattle.script.proofs.Stopping.{first-fault as stops-first}
 use Rattle.script.proofs.FirstScope.{scope-first as scope-stops}
 use Rattle.script.proofs.FirstStore.{stores-first as stores-stop}
 use Rattle.tape.specs.Tape.{tape}
-use Rattle.compiler.specs.Translate.{translate}
-use Rattle.compiler.specs.Compile.{Result, stages, firstOf, written, unlessFault, compileBy, compile}
-use Rattle.compiler.specs.declared.Compiled.{Compiled}
-use Rattle.compiler.specs.declared.Compiled.the-variants.{Tape, Refused}
+use Rattle.translation.specs.Translate.{translate}
+use Rattle.translation.specs.Compile.{Result, stages, firstOf, written, unlessFault, compileBy, compile}
+use Rattle.translation.specs.declared.Compiled.{Compiled}
+use Rattle.translation.specs.declared.Compiled.the-variants.{Tape, Refused}
 use Rattle.promises.specs.Compiles.{Faulty, by-reading, by-stage, by-room}
 
 -- ---- READS EXACTLY: a table passes 1 to 7 exactly if it is the written form of a script within the ranges and depths of 01; writing, then reading, gives the

@@ -9,9 +9,9 @@ use Rattle.script.specs.Parse.{parsed, refused, readTable}
 use Rattle.script.specs.declared.First.the-variants.{Clean, Fault}
 use Rattle.tape.specs.Tape.{tape}
 use Rattle.tape.specs.Steps.{stepsExposed}
-use Rattle.compiler.specs.Translate.{translate}
-use Rattle.compiler.specs.Compile.{stages, firstOf, compile}
-use Rattle.compiler.specs.declared.Compiled.the-variants.{Tape}
+use Rattle.translation.specs.Translate.{translate}
+use Rattle.translation.specs.Compile.{stages, firstOf, compile}
+use Rattle.translation.specs.declared.Compiled.the-variants.{Tape}
 
 -- the words of the records written
 abbrev pub tape-left : List ℕ → List ℕ → ℕ → List ℕ

@@ -7,7 +7,7 @@ use lib.ListN.{replicate}
 use lib.Dec.{eqb}
 use Rattle.word.specs.Records.{rec, wordsOf}
 use Rattle.word.specs.declared.Record.{Record}
-use Rattle.compiler.specs.Compile.{compile, caseOf, valuesOf, Case, accepted, refusal}
+use Rattle.translation.specs.Compile.{compile, caseOf, valuesOf, Case, accepted, refusal}
 use Rattle.machine.specs.Run.{run, caseOf as endOf, valuesOf as endValues, Case as End, done, stopped, refusal as turnedAway}
 use Rattle.promises.specs.Listing.{PROGRAM, ARRAY, FUNC, NUM, TRU, FLS, VAR, GET, LNOT, BIN, CALL, SKIP, SEQ, DEF, SET, PUT, FOR, IF, RETURN, lit, var, get, not, bin, call, def, set, put, for, end, ret}
 use Rattle.promises.specs.Swatches.{sames}

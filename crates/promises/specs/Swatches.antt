@@ -10,7 +10,7 @@ use Rattle.word.specs.declared.Record.{Record}
 use Rattle.script.specs.Parse.{Parsed, parsed, refused, readTable}
 use Rattle.script.specs.Tree.{Program}
 use Rattle.script.specs.Plain.{plain}
-use Rattle.compiler.specs.Compile.{Result, compile, caseOf, valuesOf, Case, accepted, refusal}
+use Rattle.translation.specs.Compile.{Result, compile, caseOf, valuesOf, Case, accepted, refusal}
 use Rattle.machine.specs.Run.{Result as Ended, run, caseOf as endOf, valuesOf as endValues, Case as End, done, stopped, refusal as turnedAway}
 use Rattle.promises.specs.Listing.{PROGRAM, ARRAY, FUNC, NUM, FLS, VAR, GET, BIN, CALL, SKIP, SEQ, DEF, SET, PUT, FOR, IF, RETURN, lit, var, not, bin, def, set, ret}
 

@@ -3,8 +3,8 @@ use Rattle.tape.specs.declared.Checked.{Checked}
 use Rattle.tape.specs.declared.Checked.the-variants.{Accepted, Refused}
 use Rattle.machine.specs.declared.Ran.{Ran}
 use Rattle.machine.specs.declared.Ran.the-variants.{Done, Stopped, Refused as RunRefused}
-use Rattle.compiler.specs.declared.Compiled.{Compiled}
-use Rattle.compiler.specs.declared.Compiled.the-variants.{Tape, Refused as CompileRefused}
+use Rattle.translation.specs.declared.Compiled.{Compiled}
+use Rattle.translation.specs.declared.Compiled.the-variants.{Tape, Refused as CompileRefused}
 use Rattle.ribbandage.specs.declared.RibbandCompiled.{RibbandCompiled}
 use Rattle.ribbandage.specs.declared.RibbandChecked.{RibbandChecked}
 use Rattle.ribbandage.specs.declared.RibbandRan.{RibbandRan}

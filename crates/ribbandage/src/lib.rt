@@ -1,12 +1,12 @@
 // The library that others link: the compiler, the check and the machine as C functions. A refusal's number is 0 where there is none.
-use compiler::Compiled;
+use checker::check::check;
 use machine::Ran;
 use tape::Checked;
-use tape::check::check;
+use translation::Compiled;
 ghost use mathlib.Core.Path.{_≡_};
 ghost use Rattle.tape.specs.Check.{check};
 ghost use Rattle.machine.specs.Run.{run};
-ghost use Rattle.compiler.specs.Compile.{compile};
+ghost use Rattle.translation.specs.Compile.{compile};
 ghost use Rattle.ribbandage.specs.Answers.{compiled, checked, ran};
 
 // A table that was compiled: the records written and the exposed function's steps; or the refusal's number and place.

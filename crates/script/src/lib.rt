@@ -1,12 +1,5 @@
-// The script table: its structure (refusals 1 to 7), scope (8, 9), types (10) and stores (11), and the judgement of them all.
-mod descent;
-pub mod judge;
-mod leads;
-mod passes;
-mod scope;
-mod stores;
-mod structure;
-mod types;
+// The script language: what its definitions need of the code. The definitions are in specs, their laws in proofs; the code that reads and judges a table stands in
+// the crates reading and stages.
 
 // What a record's fields are tested against: how many slots and arrays there are, which function this is, and how many parameters each
 // lower one has (0 for the others).

@@ -1,7 +1,7 @@
 // Compiles a table, runs its tape, and prints what both answer. An output of 1,024 records is more than any case needs.
-use compiler::Compiled;
 use libc::STDOUT_FILENO;
 use machine::Ran;
+use translation::Compiled;
 ghost use Prim.Native.Nat.{_≤_};
 ghost use lib.ListN.{length};
 

@@ -1,11 +1,10 @@
--- The laws that other crates cite, and what the functions' proofs share. A record by itself: Cases, Reading, Written (words and code), Declaring. The
+-- The laws that other crates cite. A record by itself: Cases, Reading, Written (words and code), Declaring. The
 -- check: Closing, Places (the scan's state before each record), Steady (its ranges), Entered, Placing, Positions (where functions and arrays stand), Declared
 -- (the exposed function, the arrays), Skipping (past a loop), Asked (what a record asks for). Core trees: Meaning, Sound, Costs, Staying (what stays visible),
 -- Sizes (records), Limits (what the check asks of a tree). What the check accepts: Knowing, Waiting, Half, Finished, Stands,
 -- Postfix (the trees of a tape that is read half), Accepted (an accepted tape is that of a sound tree within the limits), Scanning, Admitted (and each such
 -- tree's tape is accepted). The rules: Tails, Settling, Running (counted steps), Entering, Follows (on the tape of a tree they do what the tree means),
--- Counted, Alike (lockstep), Worded (values stay words). The code of the check: Blanks (24), Counts (steps, held at the limit), Sets (slots as bits), Held,
--- Awaited, Rows, Search, SlotRule (29), Clear, Bounds, Stores, Allowed, Walk (the scan, record by record), Scanned (its state stands for the scan's), Leaving.
+-- Counted, Alike (lockstep), Worded (values stay words). Counts (steps, held at the limit).
 pub mod Computes
 pub mod Cases
 pub mod Reading
@@ -43,18 +42,4 @@ pub mod Follows
 pub mod Counted
 pub mod Alike
 pub mod Worded
-pub mod Blanks
 pub mod Counts
-pub mod Sets
-pub mod Held
-pub mod Awaited
-pub mod Rows
-pub mod Search
-pub mod SlotRule
-pub mod Clear
-pub mod Bounds
-pub mod Stores
-pub mod Allowed
-pub mod Walk
-pub mod Scanned
-pub mod Leaving

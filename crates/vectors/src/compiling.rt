@@ -2,7 +2,7 @@
 use crate::reading::held;
 use crate::reading::number;
 use crate::reading::words;
-use compiler::Compiled;
+use translation::Compiled;
 ghost use mathlib.Core.Path.{_≡_};
 ghost use Prim.Native.Nat.{_≤_};
 ghost use lib.ListN.{length};

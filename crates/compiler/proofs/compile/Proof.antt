@@ -1,7 +1,7 @@
 -- `compiler::compile` meets its contract: the judgement decides, and then the cost. Assumes nothing.
 use mathlib.Core.Path.{sym, _∙_}
 use denote.Ref.{now}
-use Rattle.script.proofs.Verdict.{judged-clean}
+use Rattle.stages.proofs.Verdict.{judged-clean}
 use Rattle.compiler.proofs.Deciding.{compile-clean, compile-fault}
 use borrow.Author.Needs.{needs}
 use Rattle.compiler.proofs.compile.Statement.{statement}

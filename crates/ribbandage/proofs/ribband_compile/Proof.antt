@@ -1,6 +1,6 @@
 -- `ribband_compile` answers what the compiler does, and leaves its words. Assumes nothing.
 use mathlib.Core.Path.{sym, ap, _∙_}
-use Rattle.compiler.specs.Compile.{Result}
+use Rattle.translation.specs.Compile.{Result}
 use Rattle.ribbandage.specs.Answers.{compiled}
 use borrow.Author.Needs.{needs}
 use Rattle.ribbandage.proofs.ribband_compile.Statement.{statement}

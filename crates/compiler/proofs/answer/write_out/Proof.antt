@@ -4,7 +4,7 @@ use mathlib.Core.Path.{sym, ap, _∙_}
 use native.Mathlib.Omega.{arith}
 use denote.Ref.{now}
 use Rattle.compiler.specs.Costing.{Outcome, walkP, answered, dry}
-use Rattle.compiler.proofs.Stepping.{answers-12, answers-13, answers-tape}
+use Rattle.compiler.proofs.Tables.{answers-12, answers-13, answers-tape}
 use Rattle.compiler.proofs.Costed.{words-of, written-is}
 use borrow.Author.Needs.{needs}
 use Rattle.compiler.proofs.answer.write_out.Statement.{statement}

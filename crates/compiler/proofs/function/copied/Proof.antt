@@ -6,9 +6,9 @@ use native.Mathlib.Nat.{sub-zero}
 use borrow.Author.Needs.{needs}
 use denote.Ref.{now}
 use lib.ListN.{length}
-use Rattle.compiler.specs.Walking.{deskOf, times}
+use Rattle.emitting.specs.Walking.{deskOf, times}
 use Rattle.compiler.specs.Costing.{copy}
-use Rattle.compiler.proofs.Stepping.{times-more, times-over}
+use Rattle.emitting.proofs.Stepping.{times-more, times-over}
 use Rattle.compiler.proofs.function.copied.Statement.{statement}
 use Rattle.compiler.proofs.function.copied.Tie as tie
 

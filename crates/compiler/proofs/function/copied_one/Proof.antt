@@ -1,9 +1,9 @@
 -- `compiler::function::copied_one` meets its contract. Assumes nothing.
 use mathlib.Core.Path.{sym, ap, _∙_}
 use denote.Ref.{now}
-use Rattle.compiler.specs.Emitting.{Sheet}
-use Rattle.compiler.specs.Walking.{desk, deskOf}
-use Rattle.compiler.proofs.Stepping.{copy-end, copy-found}
+use Rattle.emitting.specs.Emitting.{Sheet}
+use Rattle.emitting.specs.Walking.{desk, deskOf}
+use Rattle.compiler.proofs.Tables.{copy-end, copy-found}
 use borrow.Author.Needs.{needs}
 use Rattle.compiler.proofs.function.copied_one.Statement.{statement}
 use Rattle.compiler.proofs.function.copied_one.Tie as tie

@@ -3,11 +3,11 @@ use mathlib.Core.Path.{sym, ap, _∙_}
 use Prim.Native.Nat.{ℕ}
 use denote.Ref.{now}
 use Rattle.tape.specs.Instruction.{write, ret}
-use Rattle.compiler.specs.Translate.{layout}
-use Rattle.compiler.specs.Emitting.{Sheet, puts}
-use Rattle.compiler.specs.Walking.{Desk, desk, deskOf, on, walkS}
+use Rattle.translation.specs.Translate.{layout}
+use Rattle.emitting.specs.Emitting.{Sheet, puts}
+use Rattle.emitting.specs.Walking.{Desk, desk, deskOf, on, walkS}
 use Rattle.compiler.specs.Costing.{rolls, heads, bodyOf, noted}
-use Rattle.compiler.proofs.Stepping.{rolls-alike, walkF-end, walkF-found}
+use Rattle.compiler.proofs.Tables.{rolls-alike, walkF-end, walkF-found}
 use borrow.Author.Needs.{needs}
 use Rattle.compiler.proofs.function.function.Statement.{statement}
 use Rattle.compiler.proofs.function.function.Tie as tie

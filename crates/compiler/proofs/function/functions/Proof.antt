@@ -6,10 +6,10 @@ use native.Mathlib.Nat.{sub-zero}
 use borrow.Author.Needs.{needs}
 use denote.Ref.{now}
 use lib.ListN.{length}
-use Rattle.compiler.specs.Walking.{deskOf}
+use Rattle.emitting.specs.Walking.{deskOf}
 use Rattle.compiler.specs.Costing.{Rolls, rolls, outcome, walkFs}
 use Rattle.compiler.specs.declared.function.Cost.the-variants.{Over}
-use Rattle.compiler.proofs.Stepping.{walkFs-on, walkFs-over, walkFs-end}
+use Rattle.compiler.proofs.Tables.{walkFs-on, walkFs-over, walkFs-end}
 use Rattle.compiler.proofs.function.functions.Statement.{statement}
 use Rattle.compiler.proofs.function.functions.Tie as tie
 

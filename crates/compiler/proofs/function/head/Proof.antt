@@ -3,7 +3,7 @@ use mathlib.Core.Path.{ap, _∙_}
 use Prim.Native.Nat.{_+_}
 use Rattle.word.specs.Records.{rec}
 use Rattle.tape.specs.Instruction.{write}
-use Rattle.compiler.specs.Emitting.{place, puts, opens}
+use Rattle.emitting.specs.Emitting.{place, puts, opens}
 use Rattle.compiler.specs.Costing.{heads}
 use borrow.Author.Needs.{needs}
 use Rattle.compiler.proofs.function.head.Statement.{statement}

@@ -3,9 +3,9 @@ use mathlib.Core.Path.{sym, ap, _∙_}
 use denote.Ref.{now}
 use lib.ListN.{replicate}
 use Rattle.word.specs.Reader.{readAt}
-use Rattle.compiler.specs.Walking.{Desk, times}
+use Rattle.emitting.specs.Walking.{Desk, times}
 use Rattle.compiler.specs.Costing.{rolls, copy, walkFs}
-use Rattle.compiler.proofs.Stepping.{start-is, walkP-end, walkP-found}
+use Rattle.compiler.proofs.Tables.{start-is, walkP-end, walkP-found}
 use borrow.Author.Needs.{needs}
 use Rattle.compiler.proofs.function.translate.Statement.{statement}
 use Rattle.compiler.proofs.function.translate.Tie as tie

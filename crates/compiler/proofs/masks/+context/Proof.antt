@@ -5,15 +5,15 @@ use native.Mathlib.Omega.{arith}
 use Rattle.word.specs.Code.{code}
 use Rattle.word.specs.Records.{rec}
 use Rattle.tape.specs.Instruction.{write}
-use Rattle.compiler.specs.Translate.{layout, context}
-use Rattle.compiler.specs.Emitting.{place, puts, layE}
+use Rattle.translation.specs.Translate.{layout, context}
+use Rattle.emitting.specs.Emitting.{place, puts, layE}
 use Prim.Native.Nat.{ℕ, suc, _-_, _<_}
 use borrow.Fn.Kinds.{In}
 use borrow.Fn.PlainCycle.{Measures, is, falls, and}
 use Rattle.compiler.proofs.masks.context.Reads as context-reads
 use Rattle.compiler.proofs.masks.context.Kinds as context-kinds
 use Rattle.compiler.proofs.masks.+context.Lts-context as lts
-use Rattle.compiler.proofs.emitter.Emitter.put.Reads as put-reads
+use Rattle.emitting.proofs.emitter.Emitter.put.Reads as put-reads
 use Rattle.compiler.proofs.masks.+context.{statement}
 use Rattle.compiler.proofs.masks.+context.Tie.{close}
 

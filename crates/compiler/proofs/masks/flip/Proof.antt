@@ -3,7 +3,7 @@ use mathlib.Core.Path.{ap, _∙_}
 use Prim.Native.Nat.{_+_}
 use Rattle.word.specs.Records.{rec}
 use Rattle.tape.specs.Instruction.{write}
-use Rattle.compiler.specs.Emitting.{place, puts, masks, flips}
+use Rattle.emitting.specs.Emitting.{place, puts, masks, flips}
 use borrow.Author.Needs.{needs}
 use Rattle.compiler.proofs.masks.flip.Statement.{statement}
 use Rattle.compiler.proofs.masks.flip.Tie as tie

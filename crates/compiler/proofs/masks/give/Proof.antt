@@ -6,8 +6,8 @@ use mathlib.Core.List.{[]}
 use Rattle.word.specs.Code.{code}
 use Rattle.word.specs.Records.{rec}
 use Rattle.tape.specs.Instruction.{write}
-use Rattle.compiler.specs.Translate.{layout, context}
-use Rattle.compiler.specs.Emitting.{place, puts, layE, masks, gives}
+use Rattle.translation.specs.Translate.{layout, context}
+use Rattle.emitting.specs.Emitting.{place, puts, layE, masks, gives}
 use borrow.Author.Needs.{needs}
 use Rattle.compiler.proofs.masks.give.Statement.{statement}
 use Rattle.compiler.proofs.masks.give.Tie as tie

@@ -4,8 +4,8 @@ use Prim.Native.Nat.{_+_}
 use Rattle.word.specs.Code.{code}
 use Rattle.word.specs.Records.{rec}
 use Rattle.tape.specs.Instruction.{write}
-use Rattle.compiler.specs.Translate.{context, masking}
-use Rattle.compiler.specs.Emitting.{place, puts, layE, masks}
+use Rattle.translation.specs.Translate.{context, masking}
+use Rattle.emitting.specs.Emitting.{place, puts, layE, masks}
 use borrow.Author.Needs.{needs}
 use Rattle.compiler.proofs.masks.mask.Statement.{statement}
 use Rattle.compiler.proofs.masks.mask.Tie as tie

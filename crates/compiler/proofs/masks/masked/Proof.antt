@@ -4,7 +4,7 @@ use mathlib.Core.List.{[]}
 use Rattle.word.specs.Code.{code}
 use Rattle.word.specs.Records.{rec}
 use Rattle.tape.specs.Instruction.{write}
-use Rattle.compiler.specs.Emitting.{place, puts, masks}
+use Rattle.emitting.specs.Emitting.{place, puts, masks}
 use borrow.Author.Needs.{needs}
 use Rattle.compiler.proofs.masks.masked.Statement.{statement}
 use Rattle.compiler.proofs.masks.masked.Tie as tie

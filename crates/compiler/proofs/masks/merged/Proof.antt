@@ -4,7 +4,7 @@ use mathlib.Core.List.{[]}
 use Rattle.word.specs.Code.{code}
 use Rattle.word.specs.Records.{rec}
 use Rattle.tape.specs.Instruction.{write}
-use Rattle.compiler.specs.Emitting.{place, puts, layE, masks, merges}
+use Rattle.emitting.specs.Emitting.{place, puts, layE, masks, merges}
 use borrow.Author.Needs.{needs}
 use Rattle.compiler.proofs.masks.merged.Statement.{statement}
 use Rattle.compiler.proofs.masks.merged.Tie as tie

@@ -2,8 +2,8 @@
 use mathlib.Core.Path.{ap, _∙_}
 use Rattle.word.specs.Records.{rec}
 use Rattle.tape.specs.Instruction.{write}
-use Rattle.compiler.specs.Translate.{layout}
-use Rattle.compiler.specs.Emitting.{place, puts, masks, merges, stores}
+use Rattle.translation.specs.Translate.{layout}
+use Rattle.emitting.specs.Emitting.{place, puts, masks, merges, stores}
 use borrow.Author.Needs.{needs}
 use Rattle.compiler.proofs.masks.store_at.Statement.{statement}
 use Rattle.compiler.proofs.masks.store_at.Tie as tie

@@ -10,11 +10,11 @@ use denote.Ref.{now}
 use lib.ListN.{length}
 use Rattle.script.specs.Table.{readS}
 use Rattle.tape.specs.Instruction.{end}
-use Rattle.compiler.specs.Translate.{layout}
-use Rattle.compiler.specs.Emitting.{sheet, puts, closes, flips}
-use Rattle.compiler.specs.Walking.{desk, deskOf, on, times, looping, branching, headS, walkS}
-use Rattle.compiler.proofs.Heads.{head-seq, head-for, head-if}
-use Rattle.compiler.proofs.Stepping.{times-more, times-over, walkS-none, walkS-end, walkS-found}
+use Rattle.translation.specs.Translate.{layout}
+use Rattle.emitting.specs.Emitting.{sheet, puts, closes, flips}
+use Rattle.emitting.specs.Walking.{desk, deskOf, on, times, looping, branching, headS, walkS}
+use Rattle.emitting.proofs.Heads.{head-seq, head-for, head-if}
+use Rattle.emitting.proofs.Stepping.{times-more, times-over, walkS-none, walkS-end, walkS-found}
 use borrow.Fn.Kinds.{In}
 use borrow.Fn.PlainCycle.{Measures, is, falls, and}
 use Rattle.compiler.proofs.statement.statement.Reads as statement-reads

@@ -2,8 +2,8 @@
 use Prim.Native.Nat.{_-_}
 use mathlib.Core.Path.{ap, _∙_}
 use Rattle.tape.specs.Instruction.{write}
-use Rattle.compiler.specs.Emitting.{Sheet, puts, closes}
-use Rattle.compiler.specs.Walking.{desk}
+use Rattle.emitting.specs.Emitting.{Sheet, puts, closes}
+use Rattle.emitting.specs.Walking.{desk}
 use borrow.Author.Needs.{needs}
 use Rattle.compiler.proofs.statement.close_loop.Statement.{statement}
 use Rattle.compiler.proofs.statement.close_loop.Tie as tie

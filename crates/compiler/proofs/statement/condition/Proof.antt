@@ -2,7 +2,7 @@
 use Prim.Native.Nat.{suc}
 use native.Mathlib.Numerals.{add-one}
 use mathlib.Core.Path.{ap}
-use Rattle.compiler.specs.Walking.{deeper}
+use Rattle.emitting.specs.Walking.{deeper}
 use borrow.Author.Needs.{needs}
 use Rattle.compiler.proofs.statement.condition.Statement.{statement}
 use Rattle.compiler.proofs.statement.condition.Tie as tie

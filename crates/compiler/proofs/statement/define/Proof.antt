@@ -1,8 +1,8 @@
 -- `compiler::statement::define` meets its contract: the expression, then the record. Assumes nothing.
 use mathlib.Core.Path.{ap, _∙_}
 use Rattle.tape.specs.Instruction.{write, def}
-use Rattle.compiler.specs.Emitting.{Sheet, puts}
-use Rattle.compiler.specs.Walking.{desk, on}
+use Rattle.emitting.specs.Emitting.{Sheet, puts}
+use Rattle.emitting.specs.Walking.{desk, on}
 use borrow.Author.Needs.{needs}
 use Rattle.compiler.proofs.statement.define.Statement.{statement}
 use Rattle.compiler.proofs.statement.define.Tie as tie

@@ -1,7 +1,7 @@
 -- `compiler::statement::flipped` meets its contract. Assumes nothing.
 use mathlib.Core.Path.{ap, _∙_}
-use Rattle.compiler.specs.Emitting.{Sheet}
-use Rattle.compiler.specs.Walking.{desk}
+use Rattle.emitting.specs.Emitting.{Sheet}
+use Rattle.emitting.specs.Walking.{desk}
 use borrow.Author.Needs.{needs}
 use Rattle.compiler.proofs.statement.flipped.Statement.{statement}
 use Rattle.compiler.proofs.statement.flipped.Tie as tie

@@ -1,8 +1,8 @@
 -- `compiler::statement::give_back` meets its contract: the expression, then what returns it. Assumes nothing.
 use mathlib.Core.Path.{ap, _∙_}
-use Rattle.compiler.specs.Translate.{layout}
-use Rattle.compiler.specs.Emitting.{Sheet, gives}
-use Rattle.compiler.specs.Walking.{desk, on}
+use Rattle.translation.specs.Translate.{layout}
+use Rattle.emitting.specs.Emitting.{Sheet, gives}
+use Rattle.emitting.specs.Walking.{desk, on}
 use borrow.Author.Needs.{needs}
 use Rattle.compiler.proofs.statement.give_back.Statement.{statement}
 use Rattle.compiler.proofs.statement.give_back.Tie as tie

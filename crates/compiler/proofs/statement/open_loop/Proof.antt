@@ -1,8 +1,8 @@
 -- `compiler::statement::open_loop` meets its contract. Assumes nothing.
 use mathlib.Core.Path.{ap, _∙_}
 use Rattle.tape.specs.Instruction.{write}
-use Rattle.compiler.specs.Emitting.{Sheet, puts, opens}
-use Rattle.compiler.specs.Walking.{desk}
+use Rattle.emitting.specs.Emitting.{Sheet, puts, opens}
+use Rattle.emitting.specs.Walking.{desk}
 use borrow.Author.Needs.{needs}
 use Rattle.compiler.proofs.statement.open_loop.Statement.{statement}
 use Rattle.compiler.proofs.statement.open_loop.Tie as tie

@@ -1,9 +1,9 @@
 -- `compiler::statement::put` meets its contract: the index, the value, the index again, then what stores. Assumes nothing.
 use denote.Ref.{now}
 use mathlib.Core.Path.{ap, _∙_}
-use Rattle.compiler.specs.Translate.{layout}
-use Rattle.compiler.specs.Emitting.{Sheet, masks, stores}
-use Rattle.compiler.specs.Walking.{Desk, desk, on, walkE, putting}
+use Rattle.translation.specs.Translate.{layout}
+use Rattle.emitting.specs.Emitting.{Sheet, masks, stores}
+use Rattle.emitting.specs.Walking.{Desk, desk, on, walkE, putting}
 use borrow.Author.Needs.{needs}
 use Rattle.compiler.proofs.statement.put.Statement.{statement}
 use Rattle.compiler.proofs.statement.put.Tie as tie

@@ -1,8 +1,8 @@
 -- `compiler::statement::set` meets its contract: the expression, then what assigns. Assumes nothing.
 use mathlib.Core.Path.{ap, _∙_}
-use Rattle.compiler.specs.Translate.{layout}
-use Rattle.compiler.specs.Emitting.{Sheet, assigns}
-use Rattle.compiler.specs.Walking.{desk, on}
+use Rattle.translation.specs.Translate.{layout}
+use Rattle.emitting.specs.Emitting.{Sheet, assigns}
+use Rattle.emitting.specs.Walking.{desk, on}
 use borrow.Author.Needs.{needs}
 use Rattle.compiler.proofs.statement.set.Statement.{statement}
 use Rattle.compiler.proofs.statement.set.Tie as tie

@@ -1,7 +1,7 @@
 -- `compiler::statement::single` meets its contract: the record's kind makes the definition compute. Assumes nothing.
 use mathlib.Core.Path.{refl}
-use Rattle.compiler.specs.Walking.{headS}
-use Rattle.compiler.proofs.Heads.{head-skip, head-def, head-set, head-put, head-return}
+use Rattle.emitting.specs.Walking.{headS}
+use Rattle.emitting.proofs.Heads.{head-skip, head-def, head-set, head-put, head-return}
 use borrow.Author.Needs.{needs}
 use Rattle.compiler.proofs.statement.single.Statement.{statement}
 use Rattle.compiler.proofs.statement.single.Tie as tie

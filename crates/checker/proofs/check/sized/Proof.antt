@@ -1,0 +1,12 @@
+-- `checker::check::sized` meets its contract: it is the definition. Assumes nothing.
+use Rattle.word.specs.Records.{sized}
+use mathlib.Core.Path.{refl}
+use Rattle.checker.proofs.check.sized.Statement.{statement}
+use Rattle.checker.proofs.check.sized.Tie as tie
+
+returns : tie.Need-returns
+unfolding sized
+returns c = refl
+
+pub sized-spec : {M : Type 1} → statement M
+sized-spec = tie.close (tie.spec returns)

@@ -1,4 +1,4 @@
--- The walk over the table of a program: its cost is the program's (12, and the figures), and its words are the tape's. Assumes nothing.
+-- The walk over the table of a program leaves the tape's words, and the answer is the program's: 12, 13 or the tape. Assumes nothing.
 use mathlib.Core.Path.{_≡_, refl, sym, ap, _∙_}
 use mathlib.Core.Bool.{Bool, true, false}
 use mathlib.Core.List.{List, [], _∷_, map}
@@ -29,15 +29,16 @@ use Rattle.tape.specs.Steps.{most, stepsOf, stepsExposed}
 use Rattle.tape.proofs.Sizes.{tapeFs-records}
 use Rattle.translation.specs.Translate.{FDEFT, translate}
 use Rattle.translation.specs.Compile.{within, costs, stages, firstOf, written, unlessFault, compileBy, compile}
-use Rattle.emitting.specs.Emitting.{Sheet, place, puts, opens}
+use Rattle.emitting.specs.Emitting.{Sheet, place, puts}
 use Rattle.emitting.specs.Walking.{Desk, desk, times}
-use Rattle.compiler.specs.Costing.{rolls, copy, Outcome, outcome, walkFs, blank, walkP, answered, costOf, dry, writeOut}
+use Rattle.costing.specs.Totals.{costOf}
+use Rattle.costing.proofs.Totalled.{tape-records, counted-is, twelve, deeps-are}
+use Rattle.compiler.specs.Writing.{rolls, copy, walkFs, blank, walkP, answered, known, writeOut}
 use Rattle.translation.specs.declared.Compiled.the-variants.{Refused}
-use Rattle.compiler.specs.declared.function.Cost.the-variants.{Within as Kept, Over}
 use Rattle.compiler.proofs.Tables.{copy-found, walkP-found, answers-12, answers-13, answers-tape}
 use Rattle.compiler.proofs.Walked.{found}
-use Rattle.compiler.proofs.Laying.{run, bare, run-fits, run-dry}
-use Rattle.compiler.proofs.Rolling.{restFrom, steps-rest, codeFs, deepsAfter, funcs-walked}
+use Rattle.compiler.proofs.Laying.{run, bare, run-fits}
+use Rattle.compiler.proofs.Rolling.{codeFs, funcs-walked}
 use Rattle.compiler.proofs.Depths.{Right, deeps-right, code-right, code-records}
 use Rattle.translation.proofs.Sizes.{tape-most}
 
@@ -46,24 +47,24 @@ layA : List ℕ → Sheet → Sheet
 layA [] s = s
 layA (n ∷ ns) s = layA ns (puts (array n) s)
 
-run-A : (ns : List ℕ) (c : Code) (s : Sheet) → run (tapeArrays ns c) (opens s) ≡ run c (opens (layA ns s))
-unfolding tapeArrays run opens puts place layA
+run-A : (ns : List ℕ) (c : Code) (s : Sheet) → run (tapeArrays ns c) s ≡ run c (layA ns s)
+unfolding tapeArrays run layA
 run-A [] c s = refl
 run-A (n ∷ ns) c s = run-A ns c (puts (array n) s)
 
-copy-one : (t : List ℕ) (s : Sheet) (at m : ℕ) {x : Record} {rest : List Record} → from t at ≡ x ∷ rest
-    → (copy t (desk s at m) ≡ desk (place x s) (at + 1) m) × (from t (at + 1) ≡ rest)
-copy-one t s at m is =
+copy-one : (t : List ℕ) (s : Sheet) (at : ℕ) {x : Record} {rest : List Record} → from t at ≡ x ∷ rest
+    → (copy t (desk s at) ≡ desk (place x s) (at + 1)) × (from t (at + 1) ≡ rest)
+copy-one t s at is =
     let (read, first, then) = found t at is in
-    (copy-found t (desk s at m) (recordAt t at) _ read ∙ ap (λ (x : Record). desk (place x s) (at + 1) m) first, then)
+    (copy-found t (desk s at) (recordAt t at) _ read ∙ ap (λ (x : Record). desk (place x s) (at + 1)) first, then)
 
-arrays-walked : (t ns : List ℕ) (s : Sheet) (at end m : ℕ) {rest : List Record} → from t at ≡ listArrays ns rest → end ≡ at + length ns
-    → (times (length ns) (copy t) (desk s at m) ≡ desk (layA ns s) end m) × (from t end ≡ rest)
+arrays-walked : (t ns : List ℕ) (s : Sheet) (at end : ℕ) {rest : List Record} → from t at ≡ listArrays ns rest → end ≡ at + length ns
+    → (times (length ns) (copy t) (desk s at) ≡ desk (layA ns s) end) × (from t end ≡ rest)
 unfolding listArrays times puts write layA
-arrays-walked t [] s at end m is e = let q : end ≡ at = omega arith in rw q (refl, is)
-arrays-walked t (n ∷ ns) s at end m is e =
-    let (q, then) = copy-one t s at m is in
-    let (q₁, rest) = arrays-walked t ns (puts (array n) s) (at + 1) end m then (omega arith) in
+arrays-walked t [] s at end is e = let q : end ≡ at = omega arith in rw q (refl, is)
+arrays-walked t (n ∷ ns) s at end is e =
+    let (q, then) = copy-one t s at is in
+    let (q₁, rest) = arrays-walked t ns (puts (array n) s) (at + 1) end then (omega arith) in
     (ap (times (length ns) (copy t)) q ∙ q₁, rest)
 
 same-size : (ns : List ℕ) (c d : Code) → length c ≡ length d → length (tapeArrays ns c) ≡ length (tapeArrays ns d)
@@ -71,37 +72,13 @@ unfolding tapeArrays
 same-size [] c d e = e
 same-size (n ∷ ns) c d e = ap suc (same-size ns c d e)
 
--- a row that says nothing
-zeros : (n g : ℕ) → _≡_ {A = ℕ} (getD (replicate n 0) g 0) 0
-zeros zero g = refl
-zeros (suc n) zero = refl
-zeros (suc n) (suc g) = zeros n g
-
 -- ---- the whole table, whatever the row of depths says
 codeP : List ℕ → Program → Code
 codeP deeps p = program (length (p .funcs)) (length (p .arrays)) ∷ tapeArrays (p .arrays) (codeFs deeps 0 (p .funcs))
 
-record Whole (o : Outcome) (deeps out : List ℕ) (p : Program) : Type 0 where
-  last : Sheet
-  is : o ≡ outcome (Kept (last .at) (last .steps)) (last .words) (deepsAfter deeps 0 (p .funcs))
-  written : run (codeP deeps p) (bare out 0) ≡ opens last
-  steps : last .steps ≡ stepsExposed (translate p)
-
-record Told (r : First) (o : Outcome) (deeps out : List ℕ) (p : Program) : Type 0 where
-  clean : r ≡ Clean → Whole o deeps out p
-  over : (number place : ℕ) → r ≡ Fault number place → (number ≡ 12) × (o .cost ≡ Over place)
-
 module _ (t : List ℕ) (p : Program) (w : Within p) (is : recordsOf t ≡ listing p) where
-  exposed : (first : ℕ) → getD (first ∷ restFrom [] (map FDEFT (p .funcs))) (length (p .funcs)) 0 ≡ stepsExposed (translate p)
-  unfolding stepsExposed stepsOf translate
-  exposed first =
-      let rest = restFrom [] (map FDEFT (p .funcs)) in
-      let n = length (p .funcs) in
-      let e : n ≡ suc (n - 1) = omega (arith, w .some) in
-      ap (λ (k : ℕ). getD (first ∷ rest) k 0) e ∙ rw (steps-rest [] (map FDEFT (p .funcs)), length-map (p .funcs) FDEFT) refl
-
-  table-walked : (deeps out : List ℕ) → Told (costs p) (walkP t deeps out) deeps out p
-  unfolding listing costs firstFunc stepsOf translate codeP run puts write
+  table-walked : (deeps out : List ℕ) → walkP t deeps out ≡ run (codeP deeps p) (bare out 0) .words
+  unfolding listing codeP run puts write
   table-walked deeps out =
       let nf = length (p .funcs) in
       let na = length (p .arrays) in
@@ -109,26 +86,12 @@ module _ (t : List ℕ) (p : Program) (w : Within p) (is : recordsOf t ≡ listi
       let s₁ = place (rec 1 nf na 0) (blank out) in
       let s₂ = layA (p .arrays) s₁ in
       let (read, first, none) = found t 0 is in
-      let (q, then) = copy-one t (blank out) 0 0 is in
-      let (q₁, rest) = arrays-walked t (p .arrays) s₁ 1 (1 + na) 0 then refl in
-      let a = funcs-walked t (w .funcs) row deeps [] s₂ (1 + na) 0 rest (λ g. zeros 16 g) refl (omega (arith, w .functions)) in
-      let twelve = ap (λ (steps : List ℕ). within (1 + na) (p .funcs) steps) (steps-rest [] (map FDEFT (p .funcs))) in
-      let walked = walkP-found t deeps out (recordAt t 0) _ read
-      ∙ ap (λ (x : Record). walkFs t (x .p) 0 (rolls (times (x .q) (copy t) (copy t (desk (blank out) 0 0))) row row deeps)) first
-      ∙ ap (λ (z : Desk). walkFs t nf 0 (rolls (times na (copy t) z) row row deeps)) q
-      ∙ ap (λ (z : Desk). walkFs t nf 0 (rolls z row row deeps)) q₁ in
-      record {
-        clean =
-            λ e.
-            let b = a .clean (sym twelve ∙ e) in
-            record {
-              last = b .last;
-              is = walked ∙ b .is;
-              written = run-A (p .arrays) (codeFs deeps 0 (p .funcs)) s₁ ∙ b .written;
-              steps = b .steps ∙ exposed (s₂ .steps);
-            };
-        over = λ number place e. let (x, y) = a .over number place (sym twelve ∙ e) in (x, ap (λ (o : Outcome). o .cost) walked ∙ y);
-      }
+      let (q, then) = copy-one t (blank out) 0 is in
+      let (q₁, rest) = arrays-walked t (p .arrays) s₁ 1 (1 + na) then refl in
+      walkP-found t deeps out (recordAt t 0) _ read
+      ∙ ap (λ (x : Record). walkFs t deeps (x .p) 0 (rolls (times (x .q) (copy t) (copy t (desk (blank out) 0))) row)) first
+      ∙ ap (λ (z : Desk). walkFs t deeps nf 0 (rolls (times na (copy t) z) row)) q ∙ ap (λ (z : Desk). walkFs t deeps nf 0 (rolls z row)) q₁
+      ∙ funcs-walked t deeps (w .funcs) s₂ (1 + na) rest ∙ ap (λ (z : Sheet). z .words) (sym (run-A (p .arrays) (codeFs deeps 0 (p .funcs)) s₁))
 
   -- ---- the figures
   codeP-records : (deeps : List ℕ) → length (codeP deeps p) ≡ length (instructions (translate p))
@@ -139,13 +102,6 @@ module _ (t : List ℕ) (p : Program) (w : Within p) (is : recordsOf t ≡ listi
   unfolding codeP instructions translate
   codeP-right right = rw (length-map (p .funcs) FDEFT, code-right (w .funcs) right) refl
 
-  -- 13: the records needed
-  pub tape-records : records (tape (translate p)) ≡ length (instructions (translate p))
-  unfolding tape words
-  tape-records =
-      let c = instructions (translate p) in
-      omega (arith, words-length (map write c), length-map c write)
-
   pub tape-words : length (tape (translate p)) ≡ length (instructions (translate p)) * 4
   unfolding tape words
   tape-words =
@@ -155,57 +111,12 @@ module _ (t : List ℕ) (p : Program) (w : Within p) (is : recordsOf t ≡ listi
   few : (deeps : List ℕ) → 0 + length (codeP deeps p) ≤ most
   few deeps = omega (arith, codeP-records deeps, tape-most p w)
 
-  -- over no output
-  dry-last : (deeps out : List ℕ) → length out < 4 → (u : Whole (walkP t deeps out) deeps out p) → u .last .at ≡ records (tape (translate p))
-  unfolding opens
-  dry-last deeps out short u =
-      let e = sym (u .written) ∙ run-dry (codeP deeps p) out 0 (few deeps) short in
-      let at : u .last .at ≡ 0 + length (codeP deeps p) = ap (λ (s : Sheet). s .at) e in
-      omega (arith, at, codeP-records deeps, tape-records)
-
-  dry-clean : costs p ≡ Clean → (dry t .cost ≡ Kept (records (tape (translate p))) (stepsExposed (translate p))) × Right (dry t .depths) 0 (p .funcs)
-  unfolding dry
-  dry-clean e =
-      let row : List ℕ = replicate 16 0 in
-      let u = table-walked row (0 ∷ []) .clean e in
-      let right = deeps-right (p .funcs) row 0 (omega (arith, w .functions)) in
-      (rw (u .is, dry-last row (0 ∷ []) (omega arith) u, u .steps) refl, rw (u .is) right)
-
-  dry-over : (number place : ℕ) → costs p ≡ Fault number place → (number ≡ 12) × (dry t .cost ≡ Over place)
-  unfolding dry
-  dry-over number place e = table-walked (replicate 16 0) (0 ∷ []) .over number place e
-
-  dry-cost : (r : First) → costs p ≡ r → dry t .cost ≡ costOf r (records (tape (translate p))) (stepsExposed (translate p))
-  unfolding costOf
-  dry-cost Clean e = dry-clean e .0
-  dry-cost (Fault number place) e = dry-over number place e .1
-
   -- over an output that is long enough
-  wet-words : (deeps out : List ℕ) → costs p ≡ Clean → Right deeps 0 (p .funcs) → length (tape (translate p)) ≤ length out
-      → walkP t deeps out .words ≡ sets out 0 (tape (translate p))
-  unfolding tape opens
-  wet-words deeps out e right room =
-      let u = table-walked deeps out .clean e in
+  wet-words : (deeps out : List ℕ) → Right deeps 0 (p .funcs) → length (tape (translate p)) ≤ length out → walkP t deeps out ≡ sets out 0 (tape (translate p))
+  unfolding tape
+  wet-words deeps out right room =
       let fits = run-fits (codeP deeps p) out 0 (few deeps) (omega (arith, codeP-records deeps, tape-words)) in
-      ap (λ (o : Outcome). o .words) (u .is) ∙ ap (λ (s : Sheet). s .words) (sym (u .written) ∙ fits) ∙ ap (λ (c : Code). sets out 0 (words c)) (codeP-right right)
-
-  -- ---- the answer, by the cost
-  wet-answer : (out : List ℕ) (b : Bool) → leb (length (tape (translate p))) (length out) ≡ b → costs p ≡ Clean → writeOut t out ≡ written b p out
-  unfolding written
-  wet-answer out true h e =
-      let room = leb-true (length (tape (translate p))) (length out) h in
-      let (cost, right) = dry-clean e in
-      answers-tape t out _ _ cost (omega (arith, tape-records, tape-words)) ∙ ap (answered _) (wet-words (dry t .depths) out e right room)
-  wet-answer out false h e =
-      let short = leb-false (length (tape (translate p))) (length out) h in
-      answers-13 t out _ _ (dry-clean e .0) (omega (arith, tape-records, tape-words))
-
-  answer-by : (out : List ℕ) (r : First) → costs p ≡ r → writeOut t out ≡ unlessFault r p out
-  unfolding unlessFault
-  answer-by out Clean e = wet-answer out (leb (length (tape (translate p))) (length out)) refl e
-  answer-by out (Fault number place) e =
-      let (twelve, cost) = dry-over number place e in
-      answers-12 t out place cost ∙ ap (λ (k : ℕ). answered (Refused k place) out) (sym twelve)
+      table-walked deeps out ∙ ap (λ (s : Sheet). s .words) fits ∙ ap (λ (c : Code). sets out 0 (words c)) (codeP-right right)
 
 -- the words of a lent table
 pub words-of : (t : List ℕ) → ((k : ℕ) → getD t k 0 < 2 ^ 32) → Words t
@@ -223,20 +134,40 @@ module _ (t : List ℕ) (w : Words t) (p : Program) (i : ℕ) (e : readTable t �
   unfolding table
   stands = ap recordsOf (sym (written-read t p i w e .0)) ∙ records-words (listing p)
 
-  -- the first walk: 12, or the records needed and the exposed function's steps
-  pub costed-is : dry t .cost ≡ costOf (costs p) (records (tape (translate p))) (stepsExposed (translate p))
-  costed-is = dry-cost t p (written-read t p i w e .1) stands (costs p) refl
+  within-ranges : Within p
+  within-ranges = written-read t p i w e .1
 
-  -- the second: the tape's words
+  -- the cost: 12, or the records needed and the exposed function's steps
+  cost-is : (r : First) → costs p ≡ r → known t .cost ≡ costOf r (records (tape (translate p))) (stepsExposed (translate p))
+  cost-is r c = counted-is t w p i e (replicate 16 0) ∙ ap (λ (f : First). costOf f (records (tape (translate p))) (stepsExposed (translate p))) c
+
+  -- the tape's words
   pub emitted-is : costs p ≡ Clean → (out : List ℕ) → length (tape (translate p)) ≤ length out
-      → walkP t (dry t .depths) out .words ≡ sets out 0 (tape (translate p))
+      → walkP t (known t .depths) out ≡ sets out 0 (tape (translate p))
   emitted-is clean out room =
-      let h = written-read t p i w e .1 in
-      wet-words t p h stands (dry t .depths) out clean (dry-clean t p h stands clean .1) room
+      let row : List ℕ = replicate 16 0 in
+      let right : Right (known t .depths) 0 (p .funcs) = rw (deeps-are t w p i e row clean) (deeps-right (p .funcs) row 0 (omega (arith, within-ranges .functions))) in
+      wet-words t p within-ranges stands (known t .depths) out right room
 
-  -- both: 12, 13, or the tape
+  -- ---- the answer, by the cost
+  wet-answer : (out : List ℕ) (b : Bool) → leb (length (tape (translate p))) (length out) ≡ b → costs p ≡ Clean → writeOut t out ≡ written b p out
+  unfolding written costOf
+  wet-answer out true h clean =
+      let room = leb-true (length (tape (translate p))) (length out) h in
+      answers-tape t out _ _ (cost-is Clean clean) (omega (arith, tape-records p, tape-words t p within-ranges stands)) ∙ ap (answered _) (emitted-is clean out room)
+  wet-answer out false h clean =
+      let short = leb-false (length (tape (translate p))) (length out) h in
+      answers-13 t out _ _ (cost-is Clean clean) (omega (arith, tape-records p, tape-words t p within-ranges stands))
+
+  answer-by : (out : List ℕ) (r : First) → costs p ≡ r → writeOut t out ≡ unlessFault r p out
+  unfolding unlessFault costOf
+  answer-by out Clean c = wet-answer out (leb (length (tape (translate p))) (length out)) refl c
+  answer-by out (Fault number place) c =
+      answers-12 t out place (cost-is (Fault number place) c) ∙ ap (λ (k : ℕ). answered (Refused k place) out) (sym (twelve t w p i e (replicate 16 0) number place c))
+
+  -- 12, 13, or the tape
   pub written-is : (out : List ℕ) → writeOut t out ≡ unlessFault (costs p) p out
-  written-is out = answer-by t p (written-read t p i w e .1) stands out (costs p) refl
+  written-is out = answer-by out (costs p) refl
 
   -- where no stage before it finds a fault, this is the compiler's whole answer
   pub compiled-is : overProgram scopeF p ≡ Clean → overProgram typeF p ≡ Clean → storage p ≡ Clean → (out : List ℕ) → writeOut t out ≡ compile t out

@@ -1,11 +1,11 @@
--- The row of deepest IF nestings: after a walk it says each function's, and a walk that finds it so writes each CFUNC as the translation has it.
+-- The row of deepest IF nestings: after the count it says each function's, and a walk that finds it so writes each CFUNC as the translation has it.
 -- Assumes nothing.
-use mathlib.Core.Path.{_≡_, refl, sym, ap, _∙_}
+use mathlib.Core.Path.{_≡_, refl, ap, _∙_}
 use mathlib.Core.List.{List, [], _∷_, map}
 use Prim.Native.Nat.{ℕ, suc, _+_, _≤_, _<_}
 use native.Mathlib.Omega.{arith}
 use lib.ListN.{length, getD, set as keep, length-set}
-use lib.Seq.{getD-set-same, getD-set-other, set-getD}
+use lib.Seq.{getD-set-same, getD-set-other}
 use Rattle.script.specs.Tree.{Func}
 use Rattle.script.specs.Written.{InFunc, InFuncs, none-left, one-more}
 use Rattle.script.specs.declared.Env.{Env}
@@ -16,7 +16,8 @@ use Rattle.tape.proofs.Counts.{hold-within}
 use Rattle.tape.proofs.Sizes.{recordsF, recordsFs, tapeS-records}
 use Rattle.translation.specs.Translate.{depth, FDEFT}
 use Rattle.translation.proofs.Heights.{depth-ifs}
-use Rattle.compiler.proofs.Rolling.{codeF, codeFs, deepsAfter}
+use Rattle.costing.proofs.Kept.{deepsAfter}
+use Rattle.compiler.proofs.Rolling.{codeF, codeFs}
 
 -- the functions from f on have the depths that the row says
 pub data Right : List ℕ → ℕ → List Func → Type 0 where
@@ -49,8 +50,7 @@ pub code-right : {v : Env} {fs : List Func} → InFuncs v fs → {deeps : List �
 unfolding codeFs tapeFs
 code-right none-left all-right = refl
 code-right (one-more {f = g} {fs = gs} h r) {deeps} {f} (one-right e k) =
-    let same : keep deeps f (depth (g .body)) ≡ deeps = ap (keep deeps f) (sym e) ∙ set-getD deeps f 0 in
-    func-right h (getD deeps f 0) _ e ∙ ap (tapeF (FDEFT g)) (ap (λ (row : List ℕ). codeFs row (suc f) gs) same ∙ code-right r k)
+    func-right h (getD deeps f 0) _ e ∙ ap (tapeF (FDEFT g)) (code-right r k)
 
 -- as many records, whatever the row says
 func-records : (deep : ℕ) (g : Func) (c : Code) → length (codeF deep g c) ≡ recordsF (FDEFT g) + length c
@@ -61,5 +61,4 @@ pub code-records : (fs : List Func) (deeps : List ℕ) (f : ℕ) → length (cod
 unfolding codeFs recordsFs
 code-records [] deeps f = refl
 code-records (g ∷ gs) deeps f =
-    let rest = codeFs (keep deeps f (depth (g .body))) (suc f) gs in
-    omega (arith, func-records (getD deeps f 0) g rest, code-records gs (keep deeps f (depth (g .body))) (suc f))
+    omega (arith, func-records (getD deeps f 0) g (codeFs deeps (suc f) gs), code-records gs deeps (suc f))

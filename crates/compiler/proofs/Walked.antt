@@ -1,7 +1,7 @@
 -- Where a tree's records stand in a table, the walk over them lays its translation, and leaves the reader past it. Assumes nothing.
 use mathlib.Core.Path.{_≡_, refl, sym, ap, _∙_}
 use mathlib.Core.List.{List, [], _∷_}
-use Prim.Native.Nat.{ℕ, zero, suc, _+_, _-_, _≤_, max}
+use Prim.Native.Nat.{ℕ, zero, suc, _+_, _-_, _≤_}
 use native.Mathlib.Omega.{arith}
 use borrow.Author.Tests.{lt-ltb}
 use Rattle.word.specs.Value.{Op, add, sub, mul, shl, shr, and, or, eq, ne, gt, lt, ge, le, land, lor}
@@ -16,9 +16,9 @@ use Rattle.script.specs.Written.{countE, countS, listE, listEs, listS, listSs, 
 use Rattle.script.specs.declared.Env.{Env}
 use Rattle.script.proofs.Leading.{from, first-from, expression-lawful, statement-lawful}
 use Rattle.tape.specs.Instruction.{def as core-def, end as core-end}
-use Rattle.translation.specs.Translate.{lowered, EXT, EXTs, layout, context, masking, merge, STT, STTs, depth, depths}
-use Rattle.emitting.specs.Emitting.{Sheet, puts, closes, layE, layEs, layS, masks, merges, assigns, stores, gives, flips}
-use Rattle.emitting.specs.Walking.{Desk, desk, on, times, deeper, looping, loweredCode, arity, own, walkE, putting, branching, headS, walkS}
+use Rattle.translation.specs.Translate.{lowered, EXT, EXTs, layout, merge, STT, STTs}
+use Rattle.emitting.specs.Emitting.{Sheet, puts, layE, layEs, layS, masks, merges, assigns, stores, gives, flips}
+use Rattle.emitting.specs.Walking.{Desk, desk, on, times, looping, loweredCode, arity, own, walkE, putting, branching, headS, walkS}
 use Rattle.emitting.proofs.Stepping.{walkE-found, walkS-found}
 
 -- a record that stands there is read
@@ -46,167 +46,148 @@ lowered-code le = refl
 lowered-code land = refl
 lowered-code lor = refl
 
--- ---- contexts and masks call nothing
-module _ (κ : List ℕ) (n : ℕ) where
-  context-calls : (d : ℕ) (s : Sheet) → layE [] (context (layout n) d) s ≡ layE κ (context (layout n) d) s
-  unfolding context layE
-  context-calls zero s = refl
-  context-calls (suc d) s = ap (puts _) (context-calls d _)
-
-  masking-calls : (d : ℕ) (s : Sheet) → layE [] (masking (layout n) d) s ≡ layE κ (masking (layout n) d) s
-  unfolding masking layE
-  masking-calls d s = rw (context-calls d s) refl
-
-  set-laid : (d x : ℕ) (e : Expr) (s : Sheet) → assigns (layout n) d x (layE κ (EXT e) s) ≡ layS κ (STT (layout n) d (set x e)) s
+-- ---- what follows an expression is the translation's
+module _ (n : ℕ) where
+  set-laid : (d x : ℕ) (e : Expr) (s : Sheet) → assigns (layout n) d x (layE (EXT e) s) ≡ layS (STT (layout n) d (set x e)) s
   unfolding assigns masks merges merge STT layE layS
-  set-laid d x e s = rw (masking-calls d _, masking-calls d _) refl
+  set-laid d x e s = refl
 
-  put-laid : (d a : ℕ) (i e : Expr) (s : Sheet) → stores (layout n) d a (layE κ (EXT i) (masks (layout n) d (layE κ (EXT e) (layE κ (EXT i) s)))) ≡ layS κ (STT (layout n) d (put a i e)) s
+  put-laid : (d a : ℕ) (i e : Expr) (s : Sheet) → stores (layout n) d a (layE (EXT i) (masks (layout n) d (layE (EXT e) (layE (EXT i) s)))) ≡ layS (STT (layout n) d (put a i e)) s
   unfolding stores masks merges merge STT layE layS
-  put-laid d a i e s = rw (masking-calls d _, masking-calls d _) refl
+  put-laid d a i e s = refl
 
-  return-laid : (d : ℕ) (e : Expr) (s : Sheet) → gives (layout n) d (layE κ (EXT e) s) ≡ layS κ (STT (layout n) d (return e)) s
+  return-laid : (d : ℕ) (e : Expr) (s : Sheet) → gives (layout n) d (layE (EXT e) s) ≡ layS (STT (layout n) d (return e)) s
   unfolding gives masks STT layE layS
-  return-laid d e s = rw (masking-calls d _, context-calls d _) refl
+  return-laid d e s = refl
 
-module _ (κ t : List ℕ) (v : Env) where
+module _ (t : List ℕ) (v : Env) where
   -- what a walk leaves, and what follows
-  abbrev Leaves : Desk → Sheet → ℕ → ℕ → List Record → Type 0
-  Leaves z s end m rest = (z ≡ desk s end m) × (from t end ≡ rest)
+  abbrev Leaves : Desk → Sheet → ℕ → List Record → Type 0
+  Leaves z s end rest = (z ≡ desk s end) × (from t end ≡ rest)
 
   -- ---- expressions
-  head-E : (h : HeadE) (left at m : ℕ) (s : Sheet) {rest : List Record} → from t at ≡ writeE h ∷ rest → 1 ≤ left
-      → (walkE (v .params) κ t left (desk s at m) ≡ on (own κ h) (times (arity (v .params) h) (walkE (v .params) κ t (left - 1)) (desk s (at + 1) m)))
+  head-E : (h : HeadE) (left at : ℕ) (s : Sheet) {rest : List Record} → from t at ≡ writeE h ∷ rest → 1 ≤ left
+      → (walkE (v .params) t left (desk s at) ≡ on (own h) (times (arity (v .params) h) (walkE (v .params) t (left - 1)) (desk s (at + 1))))
       × (from t (at + 1) ≡ rest)
   unfolding expression
-  head-E h left at m s is some =
+  head-E h left at s is some =
       let (read, first, rest) = found t at is in
       let e : readE (recordAt t at) ≡ h = ap readE first ∙ expression-lawful .again h in (
-        walkE-found (v .params) κ t left (desk s at m) _ _ (omega arith) read
-            ∙ ap (λ (g : HeadE). on (own κ g) (times (arity (v .params) g) (walkE (v .params) κ t (left - 1)) (desk s (at + 1) m))) e,
+        walkE-found (v .params) t left (desk s at) _ _ (omega arith) read
+            ∙ ap (λ (g : HeadE). on (own g) (times (arity (v .params) g) (walkE (v .params) t (left - 1)) (desk s (at + 1)))) e,
         rest,
       )
 
-  leaf : {z : Desk} {s : Sheet} {i j m : ℕ} {rest : List Record} → j ≡ i → Leaves z s i m rest → Leaves z s j m rest
+  leaf : {z : Desk} {s : Sheet} {i j : ℕ} {rest : List Record} → j ≡ i → Leaves z s i rest → Leaves z s j rest
   leaf e h = rw e h
 
   mutual
     unfolding listE depthE InE sizeE countE own arity times EXT layE
 
-    pub expr-walked : (x : Expr) (left at end m : ℕ) (s : Sheet) {rest : List Record} → from t at ≡ listE x rest → depthE x ≤ left → InE v x → end ≡ at + sizeE x
-        → Leaves (walkE (v .params) κ t left (desk s at m)) (layE κ (EXT x) s) end m rest
-    expr-walked (num n) left at end m s is d i e = leaf e (head-E (NUM n) left at m s is d)
-    expr-walked tru left at end m s is d i e = leaf e (head-E TRUE left at m s is d)
-    expr-walked fls left at end m s is d i e = leaf e (head-E FALSE left at m s is d)
-    expr-walked (var x) left at end m s is d i e = leaf e (head-E (VAR x) left at m s is d)
-    expr-walked (get a x) left at end m s is d i e =
-        let (p, then) = head-E (GET a) left at m s is (omega arith) in
-        let (q, rest) = expr-walked x (left - 1) (at + 1) end m s then (omega arith) (i .1) (omega arith) in
+    pub expr-walked : (x : Expr) (left at end : ℕ) (s : Sheet) {rest : List Record} → from t at ≡ listE x rest → depthE x ≤ left → InE v x → end ≡ at + sizeE x
+        → Leaves (walkE (v .params) t left (desk s at)) (layE (EXT x) s) end rest
+    expr-walked (num n) left at end s is d i e = leaf e (head-E (NUM n) left at s is d)
+    expr-walked tru left at end s is d i e = leaf e (head-E TRUE left at s is d)
+    expr-walked fls left at end s is d i e = leaf e (head-E FALSE left at s is d)
+    expr-walked (var x) left at end s is d i e = leaf e (head-E (VAR x) left at s is d)
+    expr-walked (get a x) left at end s is d i e =
+        let (p, then) = head-E (GET a) left at s is (omega arith) in
+        let (q, rest) = expr-walked x (left - 1) (at + 1) end s then (omega arith) (i .1) (omega arith) in
         (p ∙ ap (on (puts _)) q, rest)
-    expr-walked (lnot x) left at end m s is d i e =
-        let (p, then) = head-E LNOT left at m s is (omega arith) in
-        let (q, rest) = expr-walked x (left - 1) (at + 1) end m s then (omega arith) i (omega arith) in
+    expr-walked (lnot x) left at end s is d i e =
+        let (p, then) = head-E LNOT left at s is (omega arith) in
+        let (q, rest) = expr-walked x (left - 1) (at + 1) end s then (omega arith) i (omega arith) in
         (p ∙ ap (on (puts _)) q, rest)
-    expr-walked (bnot x) left at end m s is d i e =
-        let (p, then) = head-E BNOT left at m s is (omega arith) in
-        let (q, rest) = expr-walked x (left - 1) (at + 1) end m s then (omega arith) i (omega arith) in
+    expr-walked (bnot x) left at end s is d i e =
+        let (p, then) = head-E BNOT left at s is (omega arith) in
+        let (q, rest) = expr-walked x (left - 1) (at + 1) end s then (omega arith) i (omega arith) in
         (p ∙ ap (on (puts _)) q, rest)
-    expr-walked (bin o l r) left at end m s is d i e =
-        let (p, then) = head-E (BIN (code o)) left at m s is (omega arith) in
-        let (q, then₁) = expr-walked l (left - 1) (at + 1) (at + 1 + sizeE l) m s then (omega arith) (i .0) refl in
-        let (q₁, rest) = expr-walked r (left - 1) (at + 1 + sizeE l) end m (layE κ (EXT l) s) then₁ (omega arith) (i .1) (omega arith) in
-        (p ∙ ap (on (own κ (BIN (code o)))) (ap (walkE (v .params) κ t (left - 1)) q ∙ q₁) ∙ rw (lowered-code o) refl, rest)
-    expr-walked (call f xs) left at end m s is d i e =
-        let (p, then) = head-E (CALL f) left at m s is (omega arith) in
-        let (q, rest) = exprs-walked xs (left - 1) (at + 1) end m s then (omega arith) (i .2) (omega arith) in
-        (p ∙ ap (on (own κ (CALL f))) (ap (λ (k : ℕ). times k (walkE (v .params) κ t (left - 1)) (desk s (at + 1) m)) (sym (i .1)) ∙ q), rest)
+    expr-walked (bin o l r) left at end s is d i e =
+        let (p, then) = head-E (BIN (code o)) left at s is (omega arith) in
+        let (q, then₁) = expr-walked l (left - 1) (at + 1) (at + 1 + sizeE l) s then (omega arith) (i .0) refl in
+        let (q₁, rest) = expr-walked r (left - 1) (at + 1 + sizeE l) end (layE (EXT l) s) then₁ (omega arith) (i .1) (omega arith) in
+        (p ∙ ap (on (own (BIN (code o)))) (ap (walkE (v .params) t (left - 1)) q ∙ q₁) ∙ rw (lowered-code o) refl, rest)
+    expr-walked (call f xs) left at end s is d i e =
+        let (p, then) = head-E (CALL f) left at s is (omega arith) in
+        let (q, rest) = exprs-walked xs (left - 1) (at + 1) end s then (omega arith) (i .2) (omega arith) in
+        (p ∙ ap (on (own (CALL f))) (ap (λ (k : ℕ). times k (walkE (v .params) t (left - 1)) (desk s (at + 1))) (sym (i .1)) ∙ q), rest)
 
-    exprs-walked : (xs : Exprs) (left at end m : ℕ) (s : Sheet) {rest : List Record} → from t at ≡ listEs xs rest → depthEs xs ≤ left → InEs v xs → end ≡ at + sizeEs xs
-        → Leaves (times (countE xs) (walkE (v .params) κ t left) (desk s at m)) (layEs κ (EXTs xs) s) end m rest
-    exprs-walked none left at end m s is d i e =
+    exprs-walked : (xs : Exprs) (left at end : ℕ) (s : Sheet) {rest : List Record} → from t at ≡ listEs xs rest → depthEs xs ≤ left → InEs v xs → end ≡ at + sizeEs xs
+        → Leaves (times (countE xs) (walkE (v .params) t left) (desk s at)) (layEs (EXTs xs) s) end rest
+    exprs-walked none left at end s is d i e =
         let q : end ≡ at = omega arith in
         rw q (refl, is)
-    exprs-walked (more x xs) left at end m s is d i e =
-        let (q, then) = expr-walked x left at (at + sizeE x) m s is (omega arith) (i .0) refl in
-        let (q₁, rest) = exprs-walked xs left (at + sizeE x) end m (layE κ (EXT x) s) then (omega arith) (i .1) (omega arith) in
-        (ap (times (countE xs) (walkE (v .params) κ t left)) q ∙ q₁, rest)
+    exprs-walked (more x xs) left at end s is d i e =
+        let (q, then) = expr-walked x left at (at + sizeE x) s is (omega arith) (i .0) refl in
+        let (q₁, rest) = exprs-walked xs left (at + sizeE x) end (layE (EXT x) s) then (omega arith) (i .1) (omega arith) in
+        (ap (times (countE xs) (walkE (v .params) t left)) q ∙ q₁, rest)
 
   -- ---- statements, in a function with n slots
   module _ (n : ℕ) where
-    head-S : (h : HeadS) (left d at m : ℕ) (s : Sheet) {rest : List Record} → from t at ≡ writeS h ∷ rest → 1 ≤ left
-        → (walkS (v .params) κ t (layout n) left d (desk s at m)
-        ≡ headS (v .params) κ t (layout n) (walkS (v .params) κ t (layout n) (left - 1)) d (desk s (at + 1) m) h)
+    head-S : (h : HeadS) (left d at : ℕ) (s : Sheet) {rest : List Record} → from t at ≡ writeS h ∷ rest → 1 ≤ left
+        → (walkS (v .params) t (layout n) left d (desk s at)
+        ≡ headS (v .params) t (layout n) (walkS (v .params) t (layout n) (left - 1)) d (desk s (at + 1)) h)
         × (from t (at + 1) ≡ rest)
     unfolding statement
-    head-S h left d at m s is some =
+    head-S h left d at s is some =
         let (read, first, rest) = found t at is in
         let e : readS (recordAt t at) ≡ h = ap readS first ∙ statement-lawful .again h in (
-          walkS-found (v .params) κ t (layout n) left d (desk s at m) _ _ (omega arith) read
-              ∙ ap (headS (v .params) κ t (layout n) (walkS (v .params) κ t (layout n) (left - 1)) d (desk s (at + 1) m)) e,
+          walkS-found (v .params) t (layout n) left d (desk s at) _ _ (omega arith) read
+              ∙ ap (headS (v .params) t (layout n) (walkS (v .params) t (layout n) (left - 1)) d (desk s (at + 1))) e,
           rest,
         )
 
-    -- one that holds no other changes no depth
-    plain : {z : Desk} {s : Sheet} {i m k : ℕ} {rest : List Record} → k ≡ m → Leaves z s i m rest → Leaves z s i k rest
-    plain e h = rw e h
-
     mutual
-      unfolding listS depthS Inside sizeS countS headS times STT depth layS layE putting looping branching deeper flips
+      unfolding listS depthS Inside sizeS countS headS times STT layS layE putting looping branching flips
 
-      pub stmt-walked : (x : Stmt) (left d at end m : ℕ) (s : Sheet) {rest : List Record} → from t at ≡ listS x rest → depthS x ≤ left → Inside v x → end ≡ at + sizeS x
-          → d ≤ m → Leaves (walkS (v .params) κ t (layout n) left d (desk s at m)) (layS κ (STT (layout n) d x) s) end (max m (d + depth x)) rest
-      stmt-walked skip left d at end m s is k i e l =
-          let (p, then) = head-S SKIP left d at m s is k in
-          plain (omega arith) (leaf e (p, then))
-      stmt-walked (seq ss) left d at end m s is k i e l =
-          let (p, then) = head-S (SEQ (countS ss)) left d at m s is (omega arith) in
-          let (q, rest) = stmts-walked ss (left - 1) d (at + 1) end m s then (omega arith) (i .2) (omega arith) l in
+      pub stmt-walked : (x : Stmt) (left d at end : ℕ) (s : Sheet) {rest : List Record} → from t at ≡ listS x rest → depthS x ≤ left → Inside v x → end ≡ at + sizeS x
+          → Leaves (walkS (v .params) t (layout n) left d (desk s at)) (layS (STT (layout n) d x) s) end rest
+      stmt-walked skip left d at end s is k i e = leaf e (head-S SKIP left d at s is k)
+      stmt-walked (seq ss) left d at end s is k i e =
+          let (p, then) = head-S (SEQ (countS ss)) left d at s is (omega arith) in
+          let (q, rest) = stmts-walked ss (left - 1) d (at + 1) end s then (omega arith) (i .2) (omega arith) in
           (p ∙ q, rest)
-      stmt-walked (def x u) left d at end m s is k i e l =
-          let (p, then) = head-S (DEF x) left d at m s is k in
-          let (q, rest) = expr-walked u 16 (at + 1) end m s then (i .1 .1) (i .1 .0) (omega arith) in
-          plain (omega arith) (p ∙ ap (on (puts _)) q, rest)
-      stmt-walked (set x u) left d at end m s is k i e l =
-          let (p, then) = head-S (SET x) left d at m s is k in
-          let (q, rest) = expr-walked u 16 (at + 1) end m s then (i .1 .1) (i .1 .0) (omega arith) in
-          plain (omega arith) (p ∙ ap (on (assigns (layout n) d x)) q ∙ ap (λ (z : Sheet). desk z end m) (set-laid κ n d x u s), rest)
-      stmt-walked (put a j u) left d at end m s is k i e l =
-          let (p, then) = head-S (PUT a) left d at m s is k in
+      stmt-walked (def x u) left d at end s is k i e =
+          let (p, then) = head-S (DEF x) left d at s is k in
+          let (q, rest) = expr-walked u 16 (at + 1) end s then (i .1 .1) (i .1 .0) (omega arith) in
+          (p ∙ ap (on (puts _)) q, rest)
+      stmt-walked (set x u) left d at end s is k i e =
+          let (p, then) = head-S (SET x) left d at s is k in
+          let (q, rest) = expr-walked u 16 (at + 1) end s then (i .1 .1) (i .1 .0) (omega arith) in
+          (p ∙ ap (on (assigns (layout n) d x)) q ∙ ap (λ (z : Sheet). desk z end) (set-laid n d x u s), rest)
+      stmt-walked (put a j u) left d at end s is k i e =
+          let (p, then) = head-S (PUT a) left d at s is k in
           let mid = at + 1 + sizeE j in
-          let (q, then₁) = expr-walked j 16 (at + 1) mid m s then (i .1 .1) (i .1 .0) refl in
-          let (q₁, rest) = expr-walked u 16 mid end m (layE κ (EXT j) s) then₁ (i .2 .1) (i .2 .0) (omega arith) in
-          let value = masks (layout n) d (layE κ (EXT u) (layE κ (EXT j) s)) in
-          let again = expr-walked j 16 (at + 1) mid m value then (i .1 .1) (i .1 .0) refl .0 in
-          plain (omega arith)
-          (p ∙ rw (q, q₁, again) refl ∙ ap (λ (z : Sheet). desk z end m) (put-laid κ n d a j u s), rest)
-      stmt-walked (for x f g b) left d at end m s is k i e l =
-          let (p, then) = head-S (FOR x f g) left d at m s is (omega arith) in
-          let (q, rest) = stmt-walked b (left - 1) d (at + 1) end m _ then (omega arith) (i .3) (omega arith) l in
-          (p ∙ ap (on (λ z. closes (s .steps) (g - f) (puts core-end z))) q, rest)
-      stmt-walked (if c a b) left d at end m s is k i e l =
-          let (p, then) = head-S IF left d at m s is (omega arith) in
+          let (q, then₁) = expr-walked j 16 (at + 1) mid s then (i .1 .1) (i .1 .0) refl in
+          let (q₁, rest) = expr-walked u 16 mid end (layE (EXT j) s) then₁ (i .2 .1) (i .2 .0) (omega arith) in
+          let value = masks (layout n) d (layE (EXT u) (layE (EXT j) s)) in
+          let again = expr-walked j 16 (at + 1) mid value then (i .1 .1) (i .1 .0) refl .0 in
+          (p ∙ rw (q, q₁, again) refl ∙ ap (λ (z : Sheet). desk z end) (put-laid n d a j u s), rest)
+      stmt-walked (for x f g b) left d at end s is k i e =
+          let (p, then) = head-S (FOR x f g) left d at s is (omega arith) in
+          let (q, rest) = stmt-walked b (left - 1) d (at + 1) end _ then (omega arith) (i .3) (omega arith) in
+          (p ∙ ap (on (puts core-end)) q, rest)
+      stmt-walked (if c a b) left d at end s is k i e =
+          let (p, then) = head-S IF left d at s is (omega arith) in
           let i₁ = at + 1 + sizeE c in
           let i₂ = i₁ + sizeS a in
-          let (q, then₁) = expr-walked c 16 (at + 1) i₁ m s then (i .0 .1) (i .0 .0) refl in
-          let s₁ = puts (core-def (n + 2 + d)) (layE κ (EXT c) s) in
-          let s₂ = flips (layout n) d (layS κ (STT (layout n) (suc d) a) s₁) in
-          let m₁ = max m (suc d) in
-          let m₂ = max m₁ (suc d + depth a) in
-          let (q₁, then₂) = stmt-walked a (left - 1) (suc d) i₁ i₂ m₁ s₁ then₁ (omega arith) (i .1) refl (omega arith) in
-          let (q₂, rest) = stmt-walked b (left - 1) (suc d) i₂ end m₂ s₂ then₂ (omega arith) (i .2) (omega arith) (omega arith) in
-          plain {m = max m₂ (suc d + depth b)} (omega arith) (p ∙ rw (q, q₁, q₂) refl, rest)
-      stmt-walked (return u) left d at end m s is k i e l =
-          let (p, then) = head-S RETURN left d at m s is k in
-          let (q, rest) = expr-walked u 16 (at + 1) end m s then (i .1) (i .0) (omega arith) in
-          plain (omega arith) (p ∙ ap (on (gives (layout n) d)) q ∙ ap (λ (z : Sheet). desk z end m) (return-laid κ n d u s), rest)
+          let (q, then₁) = expr-walked c 16 (at + 1) i₁ s then (i .0 .1) (i .0 .0) refl in
+          let s₁ = puts (core-def (n + 2 + d)) (layE (EXT c) s) in
+          let s₂ = flips (layout n) d (layS (STT (layout n) (suc d) a) s₁) in
+          let (q₁, then₂) = stmt-walked a (left - 1) (suc d) i₁ i₂ s₁ then₁ (omega arith) (i .1) refl in
+          let (q₂, rest) = stmt-walked b (left - 1) (suc d) i₂ end s₂ then₂ (omega arith) (i .2) (omega arith) in
+          (p ∙ rw (q, q₁, q₂) refl, rest)
+      stmt-walked (return u) left d at end s is k i e =
+          let (p, then) = head-S RETURN left d at s is k in
+          let (q, rest) = expr-walked u 16 (at + 1) end s then (i .1) (i .0) (omega arith) in
+          (p ∙ ap (on (gives (layout n) d)) q ∙ ap (λ (z : Sheet). desk z end) (return-laid n d u s), rest)
 
-      stmts-walked : (xs : Stmts) (left d at end m : ℕ) (s : Sheet) {rest : List Record} → from t at ≡ listSs xs rest → depthSs xs ≤ left → Insides v xs
-          → end ≡ at + sizeSs xs → d ≤ m
-          → Leaves (times (countS xs) (walkS (v .params) κ t (layout n) left d) (desk s at m)) (layS κ (STTs (layout n) d xs) s) end (max m (d + depths xs)) rest
-      stmts-walked done left d at end m s is k i e l =
+      stmts-walked : (xs : Stmts) (left d at end : ℕ) (s : Sheet) {rest : List Record} → from t at ≡ listSs xs rest → depthSs xs ≤ left → Insides v xs
+          → end ≡ at + sizeSs xs → Leaves (times (countS xs) (walkS (v .params) t (layout n) left d) (desk s at)) (layS (STTs (layout n) d xs) s) end rest
+      stmts-walked done left d at end s is k i e =
           let q : end ≡ at = omega arith in
-          plain {m = m} (omega arith) (rw q (refl, is))
-      stmts-walked (next x xs) left d at end m s is k i e l =
-          let (q, then) = stmt-walked x left d at (at + sizeS x) m s is (omega arith) (i .0) refl l in
-          let (q₁, rest) = stmts-walked xs left d (at + sizeS x) end (max m (d + depth x)) (layS κ (STT (layout n) d x) s) then (omega arith) (i .1) (omega arith) (omega arith) in
-          plain {m = max (max m (d + depth x)) (d + depths xs)} (omega arith) (ap (times (countS xs) (walkS (v .params) κ t (layout n) left d)) q ∙ q₁, rest)
+          rw q (refl, is)
+      stmts-walked (next x xs) left d at end s is k i e =
+          let (q, then) = stmt-walked x left d at (at + sizeS x) s is (omega arith) (i .0) refl in
+          let (q₁, rest) = stmts-walked xs left d (at + sizeS x) end (layS (STT (layout n) d x) s) then (omega arith) (i .1) (omega arith) in
+          (ap (times (countS xs) (walkS (v .params) t (layout n) left d)) q ∙ q₁, rest)

@@ -1,2 +1,2 @@
--- How the code goes over a whole table, for the cost and then for the words: Costing.
-pub mod Costing
+-- How the code goes over a whole table and answers, by the cost that was counted: Writing.
+pub mod Writing

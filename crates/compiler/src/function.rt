@@ -1,4 +1,4 @@
-// Functions, and a whole table: what is kept of each function for those after it, and the cost.
+// Functions, and a whole table: what is kept of each function for those after it.
 use crate::statement::statement;
 use emitting::emitter::Emitter;
 use emitting::emitter::TRUE;
@@ -12,13 +12,7 @@ ghost use Prim.Native.Nat.{_≤_, min};
 ghost use lib.ListN.{set as keep};
 ghost use Rattle.emitting.specs.Emitting.{sheet};
 ghost use Rattle.emitting.specs.Walking.{deskOf, times};
-ghost use Rattle.compiler.specs.Costing.{rolls, outcome, heads, copy, walkF, walkFs, walkP};
-
-// The records needed and the exposed function's steps; or the FUNC of the first function that takes over a thousand million.
-pub enum Cost {
-    Within { records: u32, steps: u32 },
-    Over(usize),
-}
+ghost use Rattle.compiler.specs.Writing.{rolls, heads, copy, walkF, walkFs, walkP};
 
 // A row says v of function f from now on, if it has a place for it.
 fn keep(row: &mut [u32], f: u32, v: u32)
@@ -37,16 +31,12 @@ fn slots_of(q: u32) -> u32
     if q < 32 { q } else { 32 }
 }
 
-// CFUNC, rval and rnset. A function's steps are counted by themselves.
+// CFUNC, rval and rnset.
 fn head(out: &mut [u32], to: Emitter, params: u32, slots: u32, depth: u32) -> Emitter
     requires { ⌜ slots ≤ 32 ⌝ }
     ensures { λ e. ⌜ sheet (now (out .exit)) e ≡ heads params slots depth (sheet (now (out .entry)) to) ⌝ }
 {
-    let fresh = Emitter {
-        at: to.at,
-        steps: 0,
-    };
-    let head = fresh.put(out, 3, params, sum(slots + 2, depth), 0);
+    let head = to.put(out, 3, params, sum(slots + 2, depth), 0);
     let no = head.put(out, 10, 0, 0, 0);
     let rval = no.put(out, 16, slots, 0, 0);
     let yes = rval.put(out, 10, TRUE, 0, 0);
@@ -78,22 +68,20 @@ fn copied_one(table: &[u32], out: &mut [u32], from: Walk) -> Walk
     Walk {
         reader: next,
         emitter,
-        deepest: from.deepest,
     }
 }
 
 // Function f: its own records round its body's; and what is kept of it.
 fn function(
     table: &[u32],
+    depths: &[u32],
     params: &mut [u32],
-    steps: &mut [u32],
-    depths: &mut [u32],
     out: &mut [u32],
     from: Walk,
     f: u32,
 ) -> Walk
-    ensures { λ w. ⌜ rolls (deskOf (now (out .exit)) w) (now (params .exit)) (now (steps .exit)) (now (depths .exit))
-        ≡ walkF (now (table .entry)) f (rolls (deskOf (now (out .entry)) from) (now (params .entry)) (now (steps .entry)) (now (depths .entry))) ⌝ }
+    ensures { λ w. ⌜ rolls (deskOf (now (out .exit)) w) (now (params .exit))
+        ≡ walkF (now (table .entry)) (now (depths .entry)) f (rolls (deskOf (now (out .entry)) from) (now (params .entry))) ⌝ }
 {
     let at = from.reader;
     let Read::Found(x, next) = at.next(table) else {
@@ -105,69 +93,38 @@ fn function(
     let first = Walk {
         reader: next,
         emitter,
-        deepest: 0,
     };
-    let body = statement(table, params, steps, out, first, slots, 0, 16);
+    let body = statement(table, params, out, first, slots, 0, 16);
     let last = body.emitter;
     let emitter = last.put(out, 21, slots, 0, 0);
     keep(params, f, x.p);
-    keep(steps, f, emitter.steps);
-    keep(depths, f, body.deepest);
     body.with(emitter)
 }
 
-// The functions one after another, to the first that is over the limit.
-fn functions(
-    table: &[u32],
-    params: &mut [u32],
-    steps: &mut [u32],
-    depths: &mut [u32],
-    out: &mut [u32],
-    from: Walk,
-    n: u32,
-) -> Cost
-    ensures { λ r. ⌜ outcome r (now (out .exit)) (now (depths .exit))
-        ≡ walkFs (now (table .entry)) n 0 (rolls (deskOf (now (out .entry)) from) (now (params .entry)) (now (steps .entry)) (now (depths .entry))) ⌝ }
+// The functions one after another.
+fn functions(table: &[u32], depths: &[u32], params: &mut [u32], out: &mut [u32], from: Walk, n: u32)
+    ensures { λ _. ⌜ now (out .exit) ≡ walkFs (now (table .entry)) (now (depths .entry)) n 0 (rolls (deskOf (now (out .entry)) from) (now (params .entry))) ⌝ }
 {
     let mut here = from;
     let mut f = 0u32;
     while f < n {
-        let next = function(table, params, steps, depths, out, here, f);
-        let last = next.emitter;
-        if 1000000000 < last.steps {
-            let place = here.reader;
-            return Cost::Over(place.at);
-        }
-        here = next;
+        here = function(table, depths, params, out, here, f);
         f += 1;
-    }
-    let last = here.emitter;
-    Cost::Within {
-        records: last.at,
-        steps: last.steps,
     }
 }
 
 // A whole table: its translation goes to `out` as far as there is room, with `depths` the deepest IF nestings of the functions.
-pub fn translate(table: &[u32], depths: &mut [u32], out: &mut [u32]) -> Cost
-    ensures { λ r. ⌜ outcome r (now (out .exit)) (now (depths .exit)) ≡ walkP (now (table .entry)) (now (depths .entry)) (now (out .entry)) ⌝ }
+pub fn translate(table: &[u32], depths: &[u32], out: &mut [u32])
+    ensures { λ _. ⌜ now (out .exit) ≡ walkP (now (table .entry)) (now (depths .entry)) (now (out .entry)) ⌝ }
 {
     let reader = Reader::new();
     let Read::Found(x, _) = reader.next(table) else {
-        return Cost::Within {
-            records: 0,
-            steps: 0,
-        };
+        return;
     };
     let mut params = [0u32; 16];
-    let mut steps = [0u32; 16];
     let emitter = Emitter::new();
-    let start = Walk {
-        reader,
-        emitter,
-        deepest: 0,
-    };
+    let start = Walk { reader, emitter };
     let program = copied(table, out, start, 1);
     let arrays = copied(table, out, program, x.q);
-    functions(table, &mut params, &mut steps, depths, out, arrays, x.p)
+    functions(table, depths, &mut params, out, arrays, x.p);
 }

@@ -2,15 +2,14 @@
 use emitting::emitter::Emitter;
 use emitting::emitter::TRUE;
 ghost use mathlib.Core.Path.{_≡_};
-ghost use mathlib.Core.List.{List};
-ghost use Prim.Native.Nat.{ℕ, _≤_};
+ghost use Prim.Native.Nat.{_≤_};
 ghost use Rattle.translation.specs.Translate.{layout, context, masking};
 ghost use Rattle.emitting.specs.Emitting.{sheet, layE, masks, merges, assigns, stores, gives, flips};
 
 // C: LIT TRUE, and within each IF its condition `&` the context round it.
 pub(crate) fn context(out: &mut [u32], to: Emitter, slots: u32, ifs: u32) -> Emitter
     requires { ⌜ (slots ≤ 32) × (ifs ≤ 16) ⌝ }
-    ensures { λ e. ⌜ ((κ : List ℕ) → sheet (now (out .exit)) e ≡ layE κ (context (layout slots) ifs) (sheet (now (out .entry)) to)) ⌝ }
+    ensures { λ e. ⌜ sheet (now (out .exit)) e ≡ layE (context (layout slots) ifs) (sheet (now (out .entry)) to) ⌝ }
 {
     if ifs == 0 {
         return to.put(out, 10, TRUE, 0, 0);
@@ -24,7 +23,7 @@ pub(crate) fn context(out: &mut [u32], to: Emitter, slots: u32, ifs: u32) -> Emi
 // M: C `&` rnset.
 fn mask(out: &mut [u32], to: Emitter, slots: u32, ifs: u32) -> Emitter
     requires { ⌜ (slots ≤ 32) × (ifs ≤ 16) ⌝ }
-    ensures { λ e. ⌜ ((κ : List ℕ) → sheet (now (out .exit)) e ≡ layE κ (masking (layout slots) ifs) (sheet (now (out .entry)) to)) ⌝ }
+    ensures { λ e. ⌜ sheet (now (out .exit)) e ≡ layE (masking (layout slots) ifs) (sheet (now (out .entry)) to) ⌝ }
 {
     let c = context(out, to, slots, ifs);
     let rnset = c.put(out, 11, slots + 1, 0, 0);

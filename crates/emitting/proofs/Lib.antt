@@ -1,3 +1,2 @@
--- What the functions' proofs share: Heads (a record by its kind), Stepping (a walk by one record).
-pub mod Heads
+-- What the functions' proofs share: Stepping (a walk by one record).
 pub mod Stepping

@@ -26,43 +26,43 @@ module _ (f : Desk → Desk) (n i : ℕ) (z : Desk) where
       ap (λ (k : ℕ). times k f z) e
 
 -- ---- one record
-module _ (params κ t : List ℕ) where
-  pub walkE-none : (left : ℕ) (z : Desk) → left ≡ 0 → walkE params κ t left z ≡ z
+module _ (params t : List ℕ) where
+  pub walkE-none : (left : ℕ) (z : Desk) → left ≡ 0 → walkE params t left z ≡ z
   unfolding walkE
-  walkE-none left z e = ap (λ (n : ℕ). walkE params κ t n z) e
+  walkE-none left z e = ap (λ (n : ℕ). walkE params t n z) e
 
-  walkE-on : (left : ℕ) (z : Desk) → 0 < left → walkE params κ t left z ≡ enterE params κ t (walkE params κ t (left - 1)) z (readAt t (z .read))
+  walkE-on : (left : ℕ) (z : Desk) → 0 < left → walkE params t left z ≡ enterE params t (walkE params t (left - 1)) z (readAt t (z .read))
   unfolding walkE
   walkE-on left z h =
       let e : left ≡ suc (left - 1) = omega arith in
-      ap (λ (n : ℕ). walkE params κ t n z) e
+      ap (λ (n : ℕ). walkE params t n z) e
 
-  pub walkE-end : (left : ℕ) (z : Desk) → 0 < left → readAt t (z .read) ≡ End → walkE params κ t left z ≡ z
+  pub walkE-end : (left : ℕ) (z : Desk) → 0 < left → readAt t (z .read) ≡ End → walkE params t left z ≡ z
   unfolding enterE
-  walkE-end left z h e = walkE-on left z h ∙ ap (enterE params κ t (walkE params κ t (left - 1)) z) e
+  walkE-end left z h e = walkE-on left z h ∙ ap (enterE params t (walkE params t (left - 1)) z) e
 
-  pub walkE-found : (left : ℕ) (z : Desk) (x : Record) (i : Reader) → 0 < left → readAt t (z .read) ≡ Found x i → walkE params κ t left z
-      ≡ on (own κ (readE x)) (times (arity params (readE x)) (walkE params κ t (left - 1)) (desk (z .sheet) (i .at) (z .deepest)))
+  pub walkE-found : (left : ℕ) (z : Desk) (x : Record) (i : Reader) → 0 < left → readAt t (z .read) ≡ Found x i → walkE params t left z
+      ≡ on (own (readE x)) (times (arity params (readE x)) (walkE params t (left - 1)) (desk (z .sheet) (i .at)))
   unfolding enterE
-  walkE-found left z x i h e = walkE-on left z h ∙ ap (enterE params κ t (walkE params κ t (left - 1)) z) e
+  walkE-found left z x i h e = walkE-on left z h ∙ ap (enterE params t (walkE params t (left - 1)) z) e
 
   module _ (l : Layout) where
-    pub walkS-none : (left d : ℕ) (z : Desk) → left ≡ 0 → walkS params κ t l left d z ≡ z
+    pub walkS-none : (left d : ℕ) (z : Desk) → left ≡ 0 → walkS params t l left d z ≡ z
     unfolding walkS
-    walkS-none left d z e = ap (λ (n : ℕ). walkS params κ t l n d z) e
+    walkS-none left d z e = ap (λ (n : ℕ). walkS params t l n d z) e
 
     walkS-on : (left d : ℕ) (z : Desk) → 0 < left
-        → walkS params κ t l left d z ≡ enterS params κ t l (walkS params κ t l (left - 1)) d z (readAt t (z .read))
+        → walkS params t l left d z ≡ enterS params t l (walkS params t l (left - 1)) d z (readAt t (z .read))
     unfolding walkS
     walkS-on left d z h =
         let e : left ≡ suc (left - 1) = omega arith in
-        ap (λ (n : ℕ). walkS params κ t l n d z) e
+        ap (λ (n : ℕ). walkS params t l n d z) e
 
-    pub walkS-end : (left d : ℕ) (z : Desk) → 0 < left → readAt t (z .read) ≡ End → walkS params κ t l left d z ≡ z
+    pub walkS-end : (left d : ℕ) (z : Desk) → 0 < left → readAt t (z .read) ≡ End → walkS params t l left d z ≡ z
     unfolding enterS
-    walkS-end left d z h e = walkS-on left d z h ∙ ap (enterS params κ t l (walkS params κ t l (left - 1)) d z) e
+    walkS-end left d z h e = walkS-on left d z h ∙ ap (enterS params t l (walkS params t l (left - 1)) d z) e
 
     pub walkS-found : (left d : ℕ) (z : Desk) (x : Record) (i : Reader) → 0 < left → readAt t (z .read) ≡ Found x i
-        → walkS params κ t l left d z ≡ headS params κ t l (walkS params κ t l (left - 1)) d (desk (z .sheet) (i .at) (z .deepest)) (readS x)
+        → walkS params t l left d z ≡ headS params t l (walkS params t l (left - 1)) d (desk (z .sheet) (i .at)) (readS x)
     unfolding enterS
-    walkS-found left d z x i h e = walkS-on left d z h ∙ ap (enterS params κ t l (walkS params κ t l (left - 1)) d z) e
+    walkS-found left d z x i h e = walkS-on left d z h ∙ ap (enterS params t l (walkS params t l (left - 1)) d z) e

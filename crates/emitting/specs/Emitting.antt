@@ -1,11 +1,9 @@
--- The sheet that an emitter writes on, a core record at a time, with the steps that are counted on the way; and a core tree laid on it, part by
--- part. Assumes nothing: these are definitions.
-use Prim.Native.Nat.{ℕ, suc, _+_, _-_, _*_}
-use mathlib.Core.Bool.{Bool, true, false, cond, _&&_}
+-- The sheet that an emitter writes on, a core record at a time; and a core tree laid on it, part by part. Assumes nothing: these are definitions.
+use Prim.Native.Nat.{ℕ, _+_, _*_}
+use mathlib.Core.Bool.{Bool, true, false}
 use mathlib.Core.List.{List, [], _∷_}
-use lib.ListN.{getD}
 use lib.Seq.{sets}
-use lib.Dec.{ltb, leb, eqb}
+use lib.Dec.{ltb}
 use Rattle.word.specs.Value.{and, or}
 use Rattle.word.specs.Code.{code}
 use Rattle.word.specs.Records.{records}
@@ -16,18 +14,13 @@ use Rattle.tape.specs.Held.{hold}
 use Rattle.translation.specs.Translate.{Layout, context, masking}
 use Rattle.emitting.specs.declared.emitter.Emitter.{Emitter}
 
--- the output, the record that is written next, and the steps counted so far in the innermost loop or function
+-- the output, and the record that is written next
 pub record Sheet : Type 0 where
   pub words : List ℕ
   pub at : ℕ
-  pub steps : ℕ
 
 abbrev pub sheet : List ℕ → Emitter → Sheet
-sheet out e = record { words = out; at = e .at; steps = e .steps }
-
--- "One step is counted by each VAR, GET, NOT, BIN, CALL, DEF, SET, PUT, RET": kinds 11 to 18, and 21
-unfoldable pub counted : ℕ → ℕ
-counted k = cond (leb 11 k && leb k 18) 1 (cond (eqb k 21) 1 0)
+sheet out e = record { words = out; at = e .at }
 
 -- four words, where there is room for them
 unfoldable pub wordsIf : Bool → List ℕ → ℕ → Record → List ℕ
@@ -39,55 +32,42 @@ place x s =
     record {
       words = wordsIf (ltb (s .at) (records (s .words))) (s .words) (s .at) x;
       at = hold (s .at + 1);
-      steps = hold (s .steps + counted (x .kind));
     }
 
 unfoldable pub puts : Instruction → Sheet → Sheet
 puts i s = place (write i) s
 
--- what a called function takes, once it is entered
-unfoldable pub takes : ℕ → Sheet → Sheet
-takes n s = record { words = s .words; at = s .at; steps = hold (s .steps + n) }
+-- ---- a core tree
+unfoldable mutual
+  pub layE : CExpr → Sheet → Sheet
+  layE (LIT v) s = puts (lit v) s
+  layE (VAR x) s = puts (var x) s
+  layE (GET a i) s = puts (get a) (layE i s)
+  layE (NOT e) s = puts not (layE e s)
+  layE (BIN o l r) s = puts (bin (code o)) (layE r (layE l s))
+  layE (CALL f es) s = puts (call f) (layEs es s)
 
--- a loop's body is counted by itself, and then as often as the loop goes round, each time with FOR's one
-unfoldable pub opens : Sheet → Sheet
-opens s = record { words = s .words; at = s .at; steps = 0 }
+  pub layEs : CExprs → Sheet → Sheet
+  layEs NONE s = s
+  layEs (MORE e es) s = layEs es (layE e s)
 
-unfoldable pub closes : ℕ → ℕ → Sheet → Sheet
-closes before passes s = record { words = s .words; at = s .at; steps = hold (before + passes * suc (s .steps)) }
-
--- ---- a core tree, where function f takes getD κ f 0 steps
-module _ (κ : List ℕ) where
-  unfoldable mutual
-    pub layE : CExpr → Sheet → Sheet
-    layE (LIT v) s = puts (lit v) s
-    layE (VAR x) s = puts (var x) s
-    layE (GET a i) s = puts (get a) (layE i s)
-    layE (NOT e) s = puts not (layE e s)
-    layE (BIN o l r) s = puts (bin (code o)) (layE r (layE l s))
-    layE (CALL f es) s = takes (getD κ f 0) (puts (call f) (layEs es s))
-
-    pub layEs : CExprs → Sheet → Sheet
-    layEs NONE s = s
-    layEs (MORE e es) s = layEs es (layE e s)
-
-  unfoldable pub layS : CStmt → Sheet → Sheet
-  layS SKIP s = s
-  layS (s ⨾ t) z = layS t (layS s z)
-  layS (DEF x e) s = puts (def x) (layE e s)
-  layS (SET x e) s = puts (set x) (layE e s)
-  layS (PUT a i e) s = puts (put a) (layE e (layE i s))
-  layS (FOR x q r b) s = closes (s .steps) (r - q) (puts end (layS b (opens (puts (for x q r) s))))
+unfoldable pub layS : CStmt → Sheet → Sheet
+layS SKIP s = s
+layS (s ⨾ t) z = layS t (layS s z)
+layS (DEF x e) s = puts (def x) (layE e s)
+layS (SET x e) s = puts (set x) (layE e s)
+layS (PUT a i e) s = puts (put a) (layE e (layE i s))
+layS (FOR x q r b) s = puts end (layS b (puts (for x q r) s))
 
 -- ---- the translation's own parts, behind the expression that they follow
 module _ (l : Layout) (d : ℕ) where
   -- .. & M
   unfoldable pub masks : Sheet → Sheet
-  masks s = puts (bin (code and)) (layE [] (masking l d) s)
+  masks s = puts (bin (code and)) (layE (masking l d) s)
 
   -- (..) | (old & ~M), behind the old value
   unfoldable pub merges : Sheet → Sheet
-  merges s = puts (bin (code or)) (puts (bin (code and)) (layE [] (NOT (masking l d)) s))
+  merges s = puts (bin (code or)) (puts (bin (code and)) (layE (NOT (masking l d)) s))
 
   -- SET x
   unfoldable pub assigns : ℕ → Sheet → Sheet
@@ -101,7 +81,7 @@ module _ (l : Layout) (d : ℕ) where
   unfoldable pub gives : Sheet → Sheet
   gives s =
       let value = puts (set (l .rval)) (puts (bin (code or)) (puts (var (l .rval)) (masks s))) in
-      puts (set (l .rnset)) (puts (bin (code and)) (layE [] (NOT (context l d)) (puts (var (l .rnset)) value)))
+      puts (set (l .rnset)) (puts (bin (code and)) (layE (NOT (context l d)) (puts (var (l .rnset)) value)))
 
   -- the condition's `~`, between the branches
   unfoldable pub flips : Sheet → Sheet

@@ -1,6 +1,6 @@
 -- The walk over a script table that writes its translation, record by record: what the code does to any words, whether they are a table or not.
 -- A part is entered where the reader stands, and left with the reader past it. Assumes nothing: these are definitions.
-use Prim.Native.Nat.{ℕ, zero, suc, _-_, max}
+use Prim.Native.Nat.{ℕ, zero, suc}
 use mathlib.Core.Bool.{cond}
 use mathlib.Core.List.{List}
 use lib.ListN.{getD}
@@ -12,35 +12,30 @@ use Rattle.word.specs.declared.reader.Read.the-variants.{Found, End}
 use Rattle.script.specs.Table.{HeadE, NUM, TRUE as YES, FALSE as NO, VAR, GET, LNOT, BNOT, BIN, CALL, HeadS, SKIP, SEQ, DEF, SET, PUT, FOR, IF, RETURN, readE, readS}
 use Rattle.tape.specs.Instruction.{lit, var, get, not, bin, call, def, for, end}
 use Rattle.translation.specs.Translate.{Layout}
-use Rattle.emitting.specs.Emitting.{Sheet, sheet, puts, takes, opens, closes, masks, assigns, stores, gives, flips}
+use Rattle.emitting.specs.Emitting.{Sheet, sheet, puts, masks, assigns, stores, gives, flips}
 use Rattle.emitting.specs.declared.walk.Walk.{Walk}
 
--- the sheet, the record that is read next, and the deepest IF nesting so far
+-- the sheet, and the record that is read next
 pub record Desk : Type 0 where
   pub sheet : Sheet
   pub read : ℕ
-  pub deepest : ℕ
 
-abbrev pub desk : Sheet → ℕ → ℕ → Desk
-desk s i m = record { sheet = s; read = i; deepest = m }
+abbrev pub desk : Sheet → ℕ → Desk
+desk s i = record { sheet = s; read = i }
 
 abbrev pub deskOf : List ℕ → Walk → Desk
-deskOf out w = desk (sheet out (w .emitter)) (w .reader .at) (w .deepest)
+deskOf out w = desk (sheet out (w .emitter)) (w .reader .at)
 
 abbrev pub on : (Sheet → Sheet) → Desk → Desk
-on f z = desk (f (z .sheet)) (z .read) (z .deepest)
+on f z = desk (f (z .sheet)) (z .read)
 
 unfoldable pub times : ℕ → (Desk → Desk) → Desk → Desk
 times zero f z = z
 times (suc n) f z = times n f (f z)
 
--- at least d IFs deep
-unfoldable pub deeper : ℕ → Desk → Desk
-deeper d z = desk (z .sheet) (z .read) (max (z .deepest) d)
-
 -- a FOR round what f does
 unfoldable pub looping : (Desk → Desk) → ℕ → ℕ → ℕ → Desk → Desk
-looping f x q r z = on (λ s. closes (z .sheet .steps) (r - q) (puts end s)) (f (on (λ s. opens (puts (for x q r) s)) z))
+looping f x q r z = on (puts end) (f (on (puts (for x q r)) z))
 
 -- ---- expressions
 -- 14 becomes 6, 15 becomes 7
@@ -59,21 +54,21 @@ arity params BNOT = 1
 arity params (BIN o) = 2
 arity params (CALL f) = getD params f 0
 
--- the expression's own record, behind its parts, where function f takes getD κ f 0 steps
-unfoldable pub own : List ℕ → HeadE → Sheet → Sheet
-own κ (NUM v) s = puts (lit v) s
-own κ YES s = puts (lit TRUE) s
-own κ NO s = puts (lit FALSE) s
-own κ (VAR x) s = puts (var x) s
-own κ (GET a) s = puts (get a) s
-own κ LNOT s = puts not s
-own κ BNOT s = puts not s
-own κ (BIN o) s = puts (bin (loweredCode o)) s
-own κ (CALL f) s = takes (getD κ f 0) (puts (call f) s)
+-- the expression's own record, behind its parts
+unfoldable pub own : HeadE → Sheet → Sheet
+own (NUM v) s = puts (lit v) s
+own YES s = puts (lit TRUE) s
+own NO s = puts (lit FALSE) s
+own (VAR x) s = puts (var x) s
+own (GET a) s = puts (get a) s
+own LNOT s = puts not s
+own BNOT s = puts not s
+own (BIN o) s = puts (bin (loweredCode o)) s
+own (CALL f) s = puts (call f) s
 
-module _ (params κ t : List ℕ) where
+module _ (params t : List ℕ) where
   unfoldable pub enterE : (Desk → Desk) → Desk → Read → Desk
-  enterE f z (Found x i) = on (own κ (readE x)) (times (arity params (readE x)) f (desk (z .sheet) (i .at) (z .deepest)))
+  enterE f z (Found x i) = on (own (readE x)) (times (arity params (readE x)) f (desk (z .sheet) (i .at)))
   enterE f z End = z
 
   -- `left` is the depth that is left, this one counted
@@ -87,11 +82,11 @@ module _ (params κ t : List ℕ) where
     unfoldable pub putting : ℕ → ℕ → Desk → Desk
     putting d a z =
         let value = on (masks l d) (walkE 16 (walkE 16 z)) in
-        let again = walkE 16 (desk (value .sheet) (z .read) (value .deepest)) in
-        desk (stores l d a (again .sheet)) (value .read) (again .deepest)
+        let again = walkE 16 (desk (value .sheet) (z .read)) in
+        desk (stores l d a (again .sheet)) (value .read)
 
     unfoldable pub branching : (Desk → Desk) → ℕ → Desk → Desk
-    branching f d z = f (on (flips l d) (f (deeper (suc d) (on (puts (def (l .condition d))) (walkE 16 z)))))
+    branching f d z = f (on (flips l d) (f (on (puts (def (l .condition d))) (walkE 16 z))))
 
     unfoldable pub headS : (ℕ → Desk → Desk) → ℕ → Desk → HeadS → Desk
     headS f d z SKIP = z
@@ -104,7 +99,7 @@ module _ (params κ t : List ℕ) where
     headS f d z RETURN = on (gives l d) (walkE 16 z)
 
     unfoldable pub enterS : (ℕ → Desk → Desk) → ℕ → Desk → Read → Desk
-    enterS f d z (Found x i) = headS f d (desk (z .sheet) (i .at) (z .deepest)) (readS x)
+    enterS f d z (Found x i) = headS f d (desk (z .sheet) (i .at)) (readS x)
     enterS f d z End = z
 
     -- with d IFs round it

@@ -2,7 +2,6 @@
 use crate::emitter::Emitter;
 use crate::emitter::TRUE;
 use crate::walk::Walk;
-use tape::held::sum;
 use word::Record;
 use word::reader::Read;
 ghost use mathlib.Core.Path.{_≡_};
@@ -49,8 +48,8 @@ fn arity(x: Record, params: &[u32]) -> u32
 }
 
 // A record's own, behind its parts.
-fn own(x: Record, steps: &[u32], out: &mut [u32], to: Emitter) -> Emitter
-    ensures { λ e. ⌜ sheet (now (out .exit)) e ≡ own (now (steps .entry)) (readE x) (sheet (now (out .entry)) to) ⌝ }
+fn own(x: Record, out: &mut [u32], to: Emitter) -> Emitter
+    ensures { λ e. ⌜ sheet (now (out .exit)) e ≡ own (readE x) (sheet (now (out .entry)) to) ⌝ }
 {
     let kind = x.kind;
     match kind {
@@ -62,26 +61,13 @@ fn own(x: Record, steps: &[u32], out: &mut [u32], to: Emitter) -> Emitter
         25 => to.put(out, 13, 0, 0, 0),
         26 => to.put(out, 13, 0, 0, 0),
         27 => to.put(out, 14, lowered(x.p), 0, 0),
-        _ => {
-            let call = to.put(out, 15, x.p, 0, 0);
-            Emitter {
-                at: call.at,
-                steps: sum(call.steps, entry(steps, x.p)),
-            }
-        }
+        _ => to.put(out, 15, x.p, 0, 0),
     }
 }
 
 // The expression where the walk stands, which may hold others to the depth `left`, itself counted.
-pub fn expression(
-    table: &[u32],
-    params: &[u32],
-    steps: &[u32],
-    out: &mut [u32],
-    from: Walk,
-    left: u32,
-) -> Walk
-    ensures { λ w. ⌜ deskOf (now (out .exit)) w ≡ walkE (now (params .entry)) (now (steps .entry)) (now (table .entry)) left (deskOf (now (out .entry)) from) ⌝ }
+pub fn expression(table: &[u32], params: &[u32], out: &mut [u32], from: Walk, left: u32) -> Walk
+    ensures { λ w. ⌜ deskOf (now (out .exit)) w ≡ walkE (now (params .entry)) (now (table .entry)) left (deskOf (now (out .entry)) from) ⌝ }
 {
     if left == 0 {
         return from;
@@ -95,15 +81,14 @@ pub fn expression(
             let mut here = Walk {
                 reader: next,
                 emitter,
-                deepest: from.deepest,
             };
             let mut i = 0u32;
             while i < parts {
-                here = expression(table, params, steps, out, here, left - 1);
+                here = expression(table, params, out, here, left - 1);
                 i += 1;
             }
             let last = here.emitter;
-            let emitter = own(x, steps, out, last);
+            let emitter = own(x, out, last);
             here.with(emitter)
         }
     }

@@ -1,4 +1,4 @@
-// Where a walk over a table stands: the reader, the emitter, and the deepest IF nesting so far.
+// Where a walk over a table stands: the reader and the emitter.
 use crate::emitter::Emitter;
 use word::reader::Reader;
 ghost use mathlib.Core.Path.{_≡_};
@@ -10,19 +10,14 @@ ghost use Rattle.emitting.specs.Walking.{desk, deskOf};
 pub struct Walk {
     pub reader: Reader,
     pub emitter: Emitter,
-    pub deepest: u32,
 }
 
 impl Walk {
     // With the emitter moved on.
     pub fn with(self, emitter: Emitter) -> Self
-        ensures { λ w. ⌜ ((out : List ℕ) → deskOf out w ≡ desk (sheet out emitter) (self .reader .at) (self .deepest)) ⌝ }
+        ensures { λ w. ⌜ ((out : List ℕ) → deskOf out w ≡ desk (sheet out emitter) (self .reader .at)) ⌝ }
     {
         let reader = self.reader;
-        Walk {
-            reader,
-            emitter,
-            deepest: self.deepest,
-        }
+        Walk { reader, emitter }
     }
 }

@@ -1,4 +1,4 @@
--- The laws that other crates cite. Sizes (records of a tree). Reading a table: Leading (one record), Reading (what is read stands there), Writing (what
+-- The laws that other crates cite. Sizes (records of a tree). Reading a table: Leading, Heads (one record), Reading (what is read stands there), Writing (what
 -- stands there is read), Exactly (THE THEOREM: a table is read exactly if it is that of a tree within the ranges).
 -- The first record at fault: Stopping (2 to 7); Beginning, Agreeing (trees whose tables begin alike), Firsts, FirstScope (8, 9), FirstStore (11); ScopeSamples (8 and 9 worked out).
 -- The judgement that the compiler's theorem asks for: Judged, its contexts' laws (Contexts), and what stores nothing (Pure). That accepted scripts meet
@@ -7,6 +7,7 @@
 pub mod Computes
 pub mod Sizes
 pub mod Leading
+pub mod Heads
 pub mod Reading
 pub mod Writing
 pub mod Exactly

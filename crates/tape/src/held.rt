@@ -27,3 +27,25 @@ pub fn with_loop(before: u32, passes: u32, inner: u32) -> u32
 {
     hold(before as u64 + passes as u64 * (inner as u64 + 1))
 }
+
+// A count and so many more, held.
+pub fn more(count: usize, n: u32) -> usize
+    ensures { λ r. ⌜ r ≡ hold (count + n) ⌝ }
+{
+    if 1000000000 < count {
+        1000000001
+    } else {
+        sum(count as u32, n) as usize
+    }
+}
+
+// A count as a word, held.
+pub fn short(count: usize) -> u32
+    ensures { λ r. ⌜ r ≡ hold count ⌝ }
+{
+    if 1000000000 < count {
+        1000000001
+    } else {
+        count as u32
+    }
+}

@@ -7,7 +7,7 @@ use borrow.Author.Needs.{needs}
 use denote.Ref.{now}
 use lib.ListN.{length}
 use Rattle.emitting.specs.Walking.{deskOf, times}
-use Rattle.compiler.specs.Costing.{copy}
+use Rattle.compiler.specs.Writing.{copy}
 use Rattle.emitting.proofs.Stepping.{times-more, times-over}
 use Rattle.compiler.proofs.function.copied.Statement.{statement}
 use Rattle.compiler.proofs.function.copied.Tie as tie

@@ -27,7 +27,7 @@ same-length : tie.Need-same-length
 same-length c = search needs
 
 returns-2 : tie.Need-returns-2
-returns-2 c = ap (λ (s : Sheet). desk s (c .before .before .before .before .before .before .x .given .0 .1 .0 .at) (c .before .before .before .before .before .before .before .before .before .before .before .before .args .from .deepest)) (c .before .before .put .ensures) ∙ sym (copy-found (now (c .before .before .before .before .before .before .before .before .before .before .before .before .args .table)) (deskOf (now (c .before .before .before .before .before .before .before .before .before .before .before .before .args .out)) (c .before .before .before .before .before .before .before .before .before .before .before .before .args .from)) (c .before .before .before .before .before .before .x .given .0 .0) (c .before .before .before .before .before .before .x .given .0 .1 .0) (sym (c .before .before .before .before .before .before .before .before .next .ensures) ∙ c .before .before .before .before .before .before .x .given .1))
+returns-2 c = ap (λ (s : Sheet). desk s (c .before .before .before .before .before .before .x .given .0 .1 .0 .at)) (c .before .before .put .ensures) ∙ sym (copy-found (now (c .before .before .before .before .before .before .before .before .before .before .before .before .args .table)) (deskOf (now (c .before .before .before .before .before .before .before .before .before .before .before .before .args .out)) (c .before .before .before .before .before .before .before .before .before .before .before .before .args .from)) (c .before .before .before .before .before .before .x .given .0 .0) (c .before .before .before .before .before .before .x .given .0 .1 .0) (sym (c .before .before .before .before .before .before .before .before .next .ensures) ∙ c .before .before .before .before .before .before .x .given .1))
 
 pub copied-one-spec : {M : Type 1} → statement M
 copied-one-spec =

@@ -3,8 +3,8 @@ use mathlib.Core.Path.{ap, _∙_}
 use Prim.Native.Nat.{_+_}
 use Rattle.word.specs.Records.{rec}
 use Rattle.tape.specs.Instruction.{write}
-use Rattle.emitting.specs.Emitting.{place, puts, opens}
-use Rattle.compiler.specs.Costing.{heads}
+use Rattle.emitting.specs.Emitting.{place, puts}
+use Rattle.compiler.specs.Writing.{heads}
 use borrow.Author.Needs.{needs}
 use Rattle.compiler.proofs.function.head.Statement.{statement}
 use Rattle.compiler.proofs.function.head.Tie as tie
@@ -37,7 +37,7 @@ same-length : tie.Need-same-length
 same-length c = search needs
 
 returns : tie.Need-returns
-unfolding heads puts write opens
+unfolding heads puts write
 returns c = rw (← (c .before .before .before .before .before .before .before .before .before .before .before .before .before .before .before .before .before .before .before .sum .ensures)) (c .before .before .put5 .ensures ∙ ap (place (rec 16 (c .before .before .before .before .before .before .before .before .before .before .before .before .before .before .before .before .before .before .before .before .before .before .args .slots + 1) 0 0)) (c .before .before .before .before .before .before .put4 .ensures ∙ ap (place (rec 10 4294967295 0 0)) (c .before .before .before .before .before .before .before .before .before .before .put3 .ensures ∙ ap (place (rec 16 (c .before .before .before .before .before .before .before .before .before .before .before .before .before .before .before .before .before .before .before .before .before .before .args .slots) 0 0)) (c .before .before .before .before .before .before .before .before .before .before .before .before .before .before .put2 .ensures ∙ ap (place (rec 10 0 0 0)) (c .before .before .before .before .before .before .before .before .before .before .before .before .before .before .before .before .before .before .put .ensures)))))
 
 pub head-spec : {M : Type 1} → statement M

@@ -4,7 +4,7 @@ use denote.Ref.{now}
 use lib.ListN.{replicate}
 use Rattle.word.specs.Reader.{readAt}
 use Rattle.emitting.specs.Walking.{Desk, times}
-use Rattle.compiler.specs.Costing.{rolls, copy, walkFs}
+use Rattle.compiler.specs.Writing.{rolls, copy, walkFs}
 use Rattle.compiler.proofs.Tables.{start-is, walkP-end, walkP-found}
 use borrow.Author.Needs.{needs}
 use Rattle.compiler.proofs.function.translate.Statement.{statement}
@@ -23,7 +23,9 @@ enum-told : tie.Need-enum-told
 enum-told c = search needs
 
 returns : tie.Need-returns
-returns c = sym (walkP-end (now (c .before .before .before .before .before .before .before .args .table)) (now (c .before .before .before .before .before .before .before .args .depths)) (now (c .before .before .before .before .before .before .before .args .out)) (ap (readAt (now (c .before .before .before .before .before .before .before .args .table))) (sym (c .before .before .before .new .ensures)) ∙ sym (c .before .before .next .ensures) ∙ c .enum-told .given .1))
+returns c =
+    let a = c .before .before .before .before .before .before .before .args in
+    sym (walkP-end (now (a .table)) (now (a .depths)) (now (a .out)) (ap (readAt (now (a .table))) (sym (c .before .before .before .new .ensures)) ∙ sym (c .before .before .next .ensures) ∙ c .enum-told .given .1))
 
 new-requires-2 : tie.Need-new-requires-2
 new-requires-2 c κs = search needs
@@ -37,28 +39,22 @@ copied-requires-2 c κs = search needs
 slice-aggregate-functions : tie.Need-slice-aggregate-functions
 slice-aggregate-functions c = search needs
 
-slice-aggregate-functions-2 : tie.Need-slice-aggregate-functions-2
-slice-aggregate-functions-2 c = search needs
-
 functions-requires : tie.Need-functions-requires
 functions-requires c κs = search needs
 
 same-length : tie.Need-same-length
 same-length c = search needs
 
-same-length-2 : tie.Need-same-length-2
-same-length-2 c = search needs
-
 returns-2 : tie.Need-returns-2
 unfolding times
 returns-2 c =
-    let a = c .before .before .before .before .before .before .before .before .before .before .before .before .before .before .before .before .before .before .before .before .before .before .before .before .before .before .before .before .args in
-    let x = c .before .before .before .before .before .before .before .before .before .before .before .before .before .before .before .before .before .before .before .before .before .x .given .0 .0 in
+    let a = c .before .before .before .before .before .before .before .before .before .before .before .before .before .before .before .before .before .before .before .before .before .before .before .args in
+    let x = c .before .before .before .before .before .before .before .before .before .before .before .before .before .before .before .before .x .given .0 .0 in
     let t = now (a .table) in
-    let begun = start-is (now (a .out)) (c .before .before .before .before .before .before .before .before .before .before .before .before .before .before .before .before .before .before .before .new2 .result) (c .before .before .before .before .before .before .before .before .before .before .before .before .before .before .before .before .before .before .before .before .before .before .before .before .new .result .at) (c .before .before .before .before .before .before .before .before .before .before .before .before .before .before .before .before .before .before .before .new2 .ensures .0) (c .before .before .before .before .before .before .before .before .before .before .before .before .before .before .before .before .before .before .before .new2 .ensures .1) (c .before .before .before .before .before .before .before .before .before .before .before .before .before .before .before .before .before .before .before .before .before .before .before .before .new .ensures) in
-    let heads = c .before .before .before .before .before .before .before .before .before .before .before .before .before .copied2 .ensures ∙ ap (times (x .q) (copy t)) (c .before .before .before .before .before .before .before .before .before .before .before .before .before .before .before .before .before .copied .ensures ∙ ap (copy t) begun) in
-    c .before .before .before .before .before .before .functions .ensures ∙ ap (λ (z : Desk). walkFs t (x .p) 0 (rolls z (replicate 16 0) (replicate 16 0) (now (a .depths)))) heads
-    ∙ sym (walkP-found t (now (a .depths)) (now (a .out)) x (c .before .before .before .before .before .before .before .before .before .before .before .before .before .before .before .before .before .before .before .before .before .x .given .0 .1 .0) (ap (readAt (now (a .table))) (sym (c .before .before .before .before .before .before .before .before .before .before .before .before .before .before .before .before .before .before .before .before .before .before .before .before .new .ensures)) ∙ sym (c .before .before .before .before .before .before .before .before .before .before .before .before .before .before .before .before .before .before .before .before .before .before .before .next .ensures) ∙ c .before .before .before .before .before .before .before .before .before .before .before .before .before .before .before .before .before .before .before .before .before .x .given .1))
+    let begun = start-is (now (a .out)) (c .before .before .before .before .before .before .before .before .before .before .before .before .before .before .new2 .result) (c .before .before .before .before .before .before .before .before .before .before .before .before .before .before .before .before .before .before .before .new .result .at) (c .before .before .before .before .before .before .before .before .before .before .before .before .before .before .new2 .ensures) (c .before .before .before .before .before .before .before .before .before .before .before .before .before .before .before .before .before .before .before .new .ensures) in
+    let heads = c .before .before .before .before .before .before .before .before .copied2 .ensures ∙ ap (times (x .q) (copy t)) (c .before .before .before .before .before .before .before .before .before .before .before .before .copied .ensures ∙ ap (copy t) begun) in
+    c .before .before .before .functions .ensures ∙ ap (λ (z : Desk). walkFs t (now (a .depths)) (x .p) 0 (rolls z (replicate 16 0))) heads
+    ∙ sym (walkP-found t (now (a .depths)) (now (a .out)) x (c .before .before .before .before .before .before .before .before .before .before .before .before .before .before .before .before .x .given .0 .1 .0) (ap (readAt t) (sym (c .before .before .before .before .before .before .before .before .before .before .before .before .before .before .before .before .before .before .before .new .ensures)) ∙ sym (c .before .before .before .before .before .before .before .before .before .before .before .before .before .before .before .before .before .before .next .ensures) ∙ c .before .before .before .before .before .before .before .before .before .before .before .before .before .before .before .before .x .given .1))
 
 pub translate-spec : {M : Type 1} → statement M
 translate-spec =
@@ -73,8 +69,6 @@ translate-spec =
     copied-requires
     copied-requires-2
     slice-aggregate-functions
-    slice-aggregate-functions-2
     functions-requires
     same-length
-    same-length-2
     returns-2)

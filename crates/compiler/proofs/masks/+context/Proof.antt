@@ -37,7 +37,7 @@ same-length t c = search needs
 
 returns : (t : ℕ) → lts.Need-returns (calls t) (context-at t) context-reads.Post
 unfolding context layE puts write
-returns t c = λ κ. rw (c .before .before .before .before .if1 .taken) (c .before .before .put .ensures)
+returns t c = rw (c .before .before .before .before .if1 .taken) (c .before .before .put .ensures)
 
 sub-d : (t : ℕ) → lts.Need-sub-d (calls t) (context-at t) context-reads.Post
 sub-d t c = omega (arith, c .if1 .left)
@@ -62,7 +62,7 @@ same-length-2 t c = search needs
 
 returns-2 : (t : ℕ) → lts.Need-returns-2 (calls t) (context-at t) context-reads.Post
 unfolding context layE puts write code
-returns-2 t c = λ κ. let e : c .before .before .before .before .before .before .before .before .before .before .before .before .before .before .args .ifs ≡ suc (c .before .before .before .before .before .before .before .before .before .before .before .before .before .before .args .ifs - 1) = omega (arith, c .before .before .before .before .before .before .before .before .before .before .before .before .if1 .left) in rw e (c .before .before .put3 .ensures ∙ ap (place (rec 14 6 0 0)) (c .before .before .before .before .before .before .context .ensures κ ∙ ap (layE κ (context (layout (c .before .before .before .before .before .before .before .before .before .before .before .before .before .before .args .slots)) (c .before .before .before .before .before .before .before .before .before .before .before .before .before .before .args .ifs - 1))) (c .before .before .before .before .before .before .before .before .before .before .put2 .ensures)))
+returns-2 t c = let e : c .before .before .before .before .before .before .before .before .before .before .before .before .before .before .args .ifs ≡ suc (c .before .before .before .before .before .before .before .before .before .before .before .before .before .before .args .ifs - 1) = omega (arith, c .before .before .before .before .before .before .before .before .before .before .before .before .if1 .left) in rw e (c .before .before .put3 .ensures ∙ ap (place (rec 14 6 0 0)) (c .before .before .before .before .before .before .context .ensures ∙ ap (layE (context (layout (c .before .before .before .before .before .before .before .before .before .before .before .before .before .before .args .slots)) (c .before .before .before .before .before .before .before .before .before .before .before .before .before .before .args .ifs - 1))) (c .before .before .before .before .before .before .before .before .before .before .put2 .ensures)))
 
 pub +context-spec : {M : Type 1} → statement M
 +context-spec = close μ-context λ t. lts.spec (calls t) (context-at t) context-reads.Post

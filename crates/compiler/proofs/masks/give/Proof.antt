@@ -50,7 +50,7 @@ same-length c = c .before .before .put7 .kept .1 .0 ∙ c .before .before .befor
 
 returns : tie.Need-returns
 unfolding gives layE puts write code
-returns c = c .before .before .put7 .ensures ∙ ap (place (rec 17 (c .before .before .before .before .before .before .before .before .before .before .before .before .before .before .before .before .before .before .before .before .before .before .before .before .before .before .before .before .before .before .before .before .before .before .before .before .before .args .slots + 1) 0 0)) (c .before .before .before .before .before .before .put6 .ensures ∙ ap (place (rec 14 6 0 0)) (c .before .before .before .before .before .before .before .before .before .before .put5 .ensures ∙ ap (place (rec 13 0 0 0)) (c .before .before .before .before .before .before .before .before .before .before .before .before .before .before .context .ensures [] ∙ ap (layE [] (context (layout (c .before .before .before .before .before .before .before .before .before .before .before .before .before .before .before .before .before .before .before .before .before .before .before .before .before .before .before .before .before .before .before .before .before .before .before .before .before .args .slots)) (c .before .before .before .before .before .before .before .before .before .before .before .before .before .before .before .before .before .before .before .before .before .before .before .before .before .before .before .before .before .before .before .before .before .before .before .before .before .args .ifs))) (c .before .before .before .before .before .before .before .before .before .before .before .before .before .before .before .before .before .before .put4 .ensures ∙ ap (place (rec 11 (c .before .before .before .before .before .before .before .before .before .before .before .before .before .before .before .before .before .before .before .before .before .before .before .before .before .before .before .before .before .before .before .before .before .before .before .before .before .args .slots + 1) 0 0)) (c .before .before .before .before .before .before .before .before .before .before .before .before .before .before .before .before .before .before .before .before .before .before .put3 .ensures ∙ ap (place (rec 17 (c .before .before .before .before .before .before .before .before .before .before .before .before .before .before .before .before .before .before .before .before .before .before .before .before .before .before .before .before .before .before .before .before .before .before .before .before .before .args .slots) 0 0)) (c .before .before .before .before .before .before .before .before .before .before .before .before .before .before .before .before .before .before .before .before .before .before .before .before .before .before .put2 .ensures ∙ ap (place (rec 14 7 0 0)) (c .before .before .before .before .before .before .before .before .before .before .before .before .before .before .before .before .before .before .before .before .before .before .before .before .before .before .before .before .before .before .put .ensures ∙ ap (place (rec 11 (c .before .before .before .before .before .before .before .before .before .before .before .before .before .before .before .before .before .before .before .before .before .before .before .before .before .before .before .before .before .before .before .before .before .before .before .before .before .args .slots) 0 0)) (c .before .before .before .before .before .before .before .before .before .before .before .before .before .before .before .before .before .before .before .before .before .before .before .before .before .before .before .before .before .before .before .before .before .before .masked .ensures))))))))
+returns c = c .before .before .put7 .ensures ∙ ap (place (rec 17 (c .before .before .before .before .before .before .before .before .before .before .before .before .before .before .before .before .before .before .before .before .before .before .before .before .before .before .before .before .before .before .before .before .before .before .before .before .before .args .slots + 1) 0 0)) (c .before .before .before .before .before .before .put6 .ensures ∙ ap (place (rec 14 6 0 0)) (c .before .before .before .before .before .before .before .before .before .before .put5 .ensures ∙ ap (place (rec 13 0 0 0)) (c .before .before .before .before .before .before .before .before .before .before .before .before .before .before .context .ensures ∙ ap (layE (context (layout (c .before .before .before .before .before .before .before .before .before .before .before .before .before .before .before .before .before .before .before .before .before .before .before .before .before .before .before .before .before .before .before .before .before .before .before .before .before .args .slots)) (c .before .before .before .before .before .before .before .before .before .before .before .before .before .before .before .before .before .before .before .before .before .before .before .before .before .before .before .before .before .before .before .before .before .before .before .before .before .args .ifs))) (c .before .before .before .before .before .before .before .before .before .before .before .before .before .before .before .before .before .before .put4 .ensures ∙ ap (place (rec 11 (c .before .before .before .before .before .before .before .before .before .before .before .before .before .before .before .before .before .before .before .before .before .before .before .before .before .before .before .before .before .before .before .before .before .before .before .before .before .args .slots + 1) 0 0)) (c .before .before .before .before .before .before .before .before .before .before .before .before .before .before .before .before .before .before .before .before .before .before .put3 .ensures ∙ ap (place (rec 17 (c .before .before .before .before .before .before .before .before .before .before .before .before .before .before .before .before .before .before .before .before .before .before .before .before .before .before .before .before .before .before .before .before .before .before .before .before .before .args .slots) 0 0)) (c .before .before .before .before .before .before .before .before .before .before .before .before .before .before .before .before .before .before .before .before .before .before .before .before .before .before .put2 .ensures ∙ ap (place (rec 14 7 0 0)) (c .before .before .before .before .before .before .before .before .before .before .before .before .before .before .before .before .before .before .before .before .before .before .before .before .before .before .before .before .before .before .put .ensures ∙ ap (place (rec 11 (c .before .before .before .before .before .before .before .before .before .before .before .before .before .before .before .before .before .before .before .before .before .before .before .before .before .before .before .before .before .before .before .before .before .before .before .before .before .args .slots) 0 0)) (c .before .before .before .before .before .before .before .before .before .before .before .before .before .before .before .before .before .before .before .before .before .before .before .before .before .before .before .before .before .before .before .before .before .before .masked .ensures))))))))
 
 pub give-spec : {M : Type 1} → statement M
 give-spec =

@@ -27,7 +27,7 @@ same-length c = search needs
 
 returns : tie.Need-returns
 unfolding masking layE puts write code
-returns c = λ κ. c .before .before .put2 .ensures ∙ ap (place (rec 14 6 0 0)) (c .before .before .before .before .before .before .put .ensures ∙ ap (place (rec 11 (c .before .before .before .before .before .before .before .before .before .before .before .before .before .args .slots + 1) 0 0)) (c .before .before .before .before .before .before .before .before .before .before .context .ensures κ))
+returns c = c .before .before .put2 .ensures ∙ ap (place (rec 14 6 0 0)) (c .before .before .before .before .before .before .put .ensures ∙ ap (place (rec 11 (c .before .before .before .before .before .before .before .before .before .before .before .before .before .args .slots + 1) 0 0)) (c .before .before .before .before .before .before .before .before .before .before .context .ensures))
 
 pub mask-spec : {M : Type 1} → statement M
 mask-spec =

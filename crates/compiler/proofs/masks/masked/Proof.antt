@@ -20,7 +20,7 @@ same-length c = search needs
 
 returns : tie.Need-returns
 unfolding masks puts write code
-returns c = c .before .before .put .ensures ∙ ap (place (rec 14 6 0 0)) (c .before .before .before .before .before .before .mask .ensures [])
+returns c = c .before .before .put .ensures ∙ ap (place (rec 14 6 0 0)) (c .before .before .before .before .before .before .mask .ensures)
 
 pub masked-spec : {M : Type 1} → statement M
 masked-spec = tie.close (tie.spec mask-requires put-requires same-length returns)

@@ -26,7 +26,7 @@ same-length c = search needs
 
 returns : tie.Need-returns
 unfolding merges layE puts write code
-returns c = c .before .before .put3 .ensures ∙ ap (place (rec 14 7 0 0)) (c .before .before .before .before .before .before .put2 .ensures ∙ ap (place (rec 14 6 0 0)) (c .before .before .before .before .before .before .before .before .before .before .put .ensures ∙ ap (place (rec 13 0 0 0)) (c .before .before .before .before .before .before .before .before .before .before .before .before .before .before .mask .ensures [])))
+returns c = c .before .before .put3 .ensures ∙ ap (place (rec 14 7 0 0)) (c .before .before .before .before .before .before .put2 .ensures ∙ ap (place (rec 14 6 0 0)) (c .before .before .before .before .before .before .before .before .before .before .put .ensures ∙ ap (place (rec 13 0 0 0)) (c .before .before .before .before .before .before .before .before .before .before .before .before .before .before .mask .ensures)))
 
 pub merged-spec : {M : Type 1} → statement M
 merged-spec =

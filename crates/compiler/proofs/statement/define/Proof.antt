@@ -21,7 +21,7 @@ same-length c = search needs
 
 returns : tie.Need-returns
 unfolding puts write
-returns c = c .with .ensures _ ∙ ap (λ (s : Sheet). desk s (c .before .before .before .before .before .before .before .before .expression .result .reader .at) (c .before .before .before .before .before .before .before .before .expression .result .deepest)) (c .before .before .before .put .ensures) ∙ ap (on (puts (def (c .before .before .before .before .before .before .before .before .before .before .before .before .before .before .args .x)))) (c .before .before .before .before .before .before .before .before .expression .ensures)
+returns c = c .with .ensures _ ∙ ap (λ (s : Sheet). desk s (c .before .before .before .before .before .before .before .before .expression .result .reader .at)) (c .before .before .before .put .ensures) ∙ ap (on (puts (def (c .before .before .before .before .before .before .before .before .before .before .before .before .before .args .x)))) (c .before .before .before .before .before .before .before .before .expression .ensures)
 
 pub define-spec : {M : Type 1} → statement M
 define-spec =

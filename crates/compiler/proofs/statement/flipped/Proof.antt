@@ -16,7 +16,7 @@ same-length : tie.Need-same-length
 same-length c = search needs
 
 returns : tie.Need-returns
-returns c = c .with .ensures _ ∙ ap (λ (s : Sheet). desk s (c .before .before .before .before .before .before .before .args .from .reader .at) (c .before .before .before .before .before .before .before .args .from .deepest)) (c .before .before .before .flip .ensures)
+returns c = c .with .ensures _ ∙ ap (λ (s : Sheet). desk s (c .before .before .before .before .before .before .before .args .from .reader .at)) (c .before .before .before .flip .ensures)
 
 pub flipped-spec : {M : Type 1} → statement M
 flipped-spec = tie.close (tie.spec flip-requires with-requires same-length returns)

@@ -1,7 +1,7 @@
--- `compiler::statement::open_loop` meets its contract. Assumes nothing.
+-- `compiler::statement::open_loop` meets its contract: FOR's record, written. Assumes nothing.
 use mathlib.Core.Path.{ap, _∙_}
 use Rattle.tape.specs.Instruction.{write}
-use Rattle.emitting.specs.Emitting.{Sheet, puts, opens}
+use Rattle.emitting.specs.Emitting.{Sheet, puts}
 use Rattle.emitting.specs.Walking.{desk}
 use borrow.Author.Needs.{needs}
 use Rattle.compiler.proofs.statement.open_loop.Statement.{statement}
@@ -17,8 +17,8 @@ same-length : tie.Need-same-length
 same-length c = search needs
 
 returns : tie.Need-returns
-unfolding opens puts write
-returns c = c .with .ensures _ ∙ ap (λ (s : Sheet). desk (opens s) (c .before .before .before .before .before .before .before .args .from .reader .at) (c .before .before .before .before .before .before .before .args .from .deepest)) (c .before .before .before .put .ensures)
+unfolding puts write
+returns c = c .with .ensures _ ∙ ap (λ (s : Sheet). desk s (c .before .before .before .before .before .before .before .args .from .reader .at)) (c .before .before .before .put .ensures)
 
 pub open-loop-spec : {M : Type 1} → statement M
 open-loop-spec = tie.close (tie.spec put-requires with-requires same-length returns)

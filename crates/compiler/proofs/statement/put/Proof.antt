@@ -21,21 +21,21 @@ expression-requires-3 : tie.Need-expression-requires-3
 expression-requires-3 c κs = search needs
 
 store-at-requires : tie.Need-store-at-requires
-store-at-requires c κs = c .before .before .before .before .before .before .before .before .before .before .before .before .before .before .before .before .before .before .before .before .before .before .before .before .before .pre
+store-at-requires c κs = c .before .before .before .before .before .before .before .before .before .before .before .before .before .before .before .before .before .before .before .before .before .before .before .before .pre
 
 same-length : tie.Need-same-length
-same-length c = c .before .before .store-at .kept .0 ∙ c .before .before .before .before .before .before .before .expression3 .kept .1 .1 .1 .0 ∙ c .before .before .before .before .before .before .before .before .before .before .before .masked .kept .0 ∙ c .before .before .before .before .before .before .before .before .before .before .before .before .before .before .before .before .before .expression2 .kept .1 .1 .1 .0 ∙ c .before .before .before .before .before .before .before .before .before .before .before .before .before .before .before .before .before .before .before .before .before .expression .kept .1 .1 .1 .0
+same-length c = c .before .before .store-at .kept .0 ∙ c .before .before .before .before .before .before .before .expression3 .kept .1 .1 .0 ∙ c .before .before .before .before .before .before .before .before .before .before .before .masked .kept .0 ∙ c .before .before .before .before .before .before .before .before .before .before .before .before .before .before .before .before .before .expression2 .kept .1 .1 .0 ∙ c .before .before .before .before .before .before .before .before .before .before .before .before .before .before .before .before .before .before .before .before .before .expression .kept .1 .1 .0
 
 returns : tie.Need-returns
 unfolding putting
 returns c =
-    let a = c .before .before .before .before .before .before .before .before .before .before .before .before .before .before .before .before .before .before .before .before .before .before .before .before .before .before .before .before .args in
+    let a = c .before .before .before .before .before .before .before .before .before .before .before .before .before .before .before .before .before .before .before .before .before .before .before .before .before .before .before .args in
     let l = layout (a .slots) in
-    let walk = walkE (now (c .before .before .before .before .before .before .before .before .before .before .before .before .before .before .before .before .before .before .before .before .before .before .before .before .before .before .before .before .args .params)) (now (c .before .before .before .before .before .before .before .before .before .before .before .before .before .before .before .before .before .before .before .before .before .before .before .before .before .before .before .before .args .steps)) (now (c .before .before .before .before .before .before .before .before .before .before .before .before .before .before .before .before .before .before .before .before .before .before .before .before .before .before .before .before .args .table)) 16 in
-    let value = ap (λ (s : Sheet). desk s (c .before .before .before .before .before .before .before .before .before .before .before .before .before .before .before .before .before .expression2 .result .reader .at) (c .before .before .before .before .before .before .before .before .before .before .before .before .before .before .before .before .before .expression2 .result .deepest)) (c .before .before .before .before .before .before .before .before .before .before .before .masked .ensures) ∙ ap (on (masks l (a .ifs))) (c .before .before .before .before .before .before .before .before .before .before .before .before .before .before .before .before .before .expression2 .ensures ∙ ap walk (c .before .before .before .before .before .before .before .before .before .before .before .before .before .before .before .before .before .before .before .before .before .expression .ensures)) in
-    let stored = ap (λ (s : Sheet). desk s (c .before .before .before .before .before .before .before .before .before .before .before .before .before .before .before .before .before .expression2 .result .reader .at) (c .before .before .before .before .before .before .before .expression3 .result .deepest)) (c .before .before .store-at .ensures) in
-    stored ∙ ap (λ (z : Desk). desk (stores l (a .ifs) (a .a) (z .sheet)) (c .before .before .before .before .before .before .before .before .before .before .before .before .before .before .before .before .before .expression2 .result .reader .at) (z .deepest)) (c .before .before .before .before .before .before .before .expression3 .ensures)
-    ∙ ap (λ (z : Desk). desk (stores l (a .ifs) (a .a) (walk (desk (z .sheet) (a .from .reader .at) (z .deepest)) .sheet)) (z .read) (walk (desk (z .sheet) (a .from .reader .at) (z .deepest)) .deepest)) value
+    let walk = walkE (now (c .before .before .before .before .before .before .before .before .before .before .before .before .before .before .before .before .before .before .before .before .before .before .before .before .before .before .before .args .params)) (now (c .before .before .before .before .before .before .before .before .before .before .before .before .before .before .before .before .before .before .before .before .before .before .before .before .before .before .before .args .table)) 16 in
+    let value = ap (λ (s : Sheet). desk s (c .before .before .before .before .before .before .before .before .before .before .before .before .before .before .before .before .before .expression2 .result .reader .at)) (c .before .before .before .before .before .before .before .before .before .before .before .masked .ensures) ∙ ap (on (masks l (a .ifs))) (c .before .before .before .before .before .before .before .before .before .before .before .before .before .before .before .before .before .expression2 .ensures ∙ ap walk (c .before .before .before .before .before .before .before .before .before .before .before .before .before .before .before .before .before .before .before .before .before .expression .ensures)) in
+    let stored = ap (λ (s : Sheet). desk s (c .before .before .before .before .before .before .before .before .before .before .before .before .before .before .before .before .before .expression2 .result .reader .at)) (c .before .before .store-at .ensures) in
+    stored ∙ ap (λ (z : Desk). desk (stores l (a .ifs) (a .a) (z .sheet)) (c .before .before .before .before .before .before .before .before .before .before .before .before .before .before .before .before .before .expression2 .result .reader .at)) (c .before .before .before .before .before .before .before .expression3 .ensures)
+    ∙ ap (λ (z : Desk). desk (stores l (a .ifs) (a .a) (walk (desk (z .sheet) (a .from .reader .at)) .sheet)) (z .read)) value
 
 pub put-spec : {M : Type 1} → statement M
 put-spec =

@@ -20,7 +20,7 @@ same-length : tie.Need-same-length
 same-length c = search needs
 
 returns : tie.Need-returns
-returns c = c .with .ensures _ ∙ ap (λ (s : Sheet). desk s (c .before .before .before .before .before .before .before .before .expression .result .reader .at) (c .before .before .before .before .before .before .before .before .expression .result .deepest)) (c .before .before .before .assign .ensures) ∙ ap (on (assigns (layout (c .before .before .before .before .before .before .before .before .before .before .before .before .before .before .args .slots)) (c .before .before .before .before .before .before .before .before .before .before .before .before .before .before .args .ifs) (c .before .before .before .before .before .before .before .before .before .before .before .before .before .before .args .x))) (c .before .before .before .before .before .before .before .before .expression .ensures)
+returns c = c .with .ensures _ ∙ ap (λ (s : Sheet). desk s (c .before .before .before .before .before .before .before .before .expression .result .reader .at)) (c .before .before .before .assign .ensures) ∙ ap (on (assigns (layout (c .before .before .before .before .before .before .before .before .before .before .before .before .before .args .slots)) (c .before .before .before .before .before .before .before .before .before .before .before .before .before .args .ifs) (c .before .before .before .before .before .before .before .before .before .before .before .before .before .args .x))) (c .before .before .before .before .before .before .before .before .expression .ensures)
 
 pub set-spec : {M : Type 1} → statement M
 set-spec =

@@ -1,7 +1,7 @@
 -- `emitting::expression::arity` meets its contract: the record's kind makes the definition compute. Assumes nothing.
 use mathlib.Core.Path.{refl}
 use Rattle.emitting.specs.Walking.{arity}
-use Rattle.emitting.proofs.Heads.{head-num, head-true, head-false, head-var, head-get, head-lnot, head-bnot, head-bin, head-call}
+use Rattle.script.proofs.Heads.{head-num, head-true, head-false, head-var, head-get, head-lnot, head-bnot, head-bin, head-call}
 use borrow.Author.Needs.{needs}
 use Rattle.emitting.proofs.expression.arity.Statement.{statement}
 use Rattle.emitting.proofs.expression.arity.Tie as tie

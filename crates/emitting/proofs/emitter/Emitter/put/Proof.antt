@@ -8,23 +8,15 @@ use Rattle.emitting.proofs.emitter.Emitter.put.Tie as tie
 store-requires : tie.Need-store-requires
 store-requires c κs = search needs
 
-sum-requires : tie.Need-sum-requires
-sum-requires c κs = search needs
-
-counted-requires : tie.Need-counted-requires
-counted-requires c κs = search needs
-
-sum-requires-2 : tie.Need-sum-requires-2
-sum-requires-2 c κs = search needs
+more-requires : tie.Need-more-requires
+more-requires c κs = search needs
 
 same-length : tie.Need-same-length
 same-length c = search needs
 
 returns : tie.Need-returns
 unfolding place
-returns c = rw (c .before .before .before .before .before .store .ensures, c .before .before .sum .ensures, c .sum2 .ensures, c .before .counted .ensures) refl
+returns c = rw (c .before .before .before .store .ensures, c .more .ensures) refl
 
 pub put-spec : {M : Type 1} → statement M
-put-spec =
-    tie.close
-    (tie.spec store-requires sum-requires counted-requires sum-requires-2 same-length returns)
+put-spec = tie.close (tie.spec store-requires more-requires same-length returns)

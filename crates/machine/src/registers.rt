@@ -32,7 +32,7 @@ impl Registers {
     }
 
     // On to a record, as one counted step.
-    pub fn count(self, at: usize, operands: usize, loops: usize) -> Registers
+    pub(crate) fn count(self, at: usize, operands: usize, loops: usize) -> Registers
         requires { ⌜ self .steps < 2 ^ 63 ⌝ }
         ensures { λ r. ⌜ r ≡ count self at operands loops ⌝ }
     {
@@ -48,7 +48,7 @@ impl Registers {
     }
 
     // The same into another frame.
-    pub fn frame(
+    pub(crate) fn frame(
         self,
         at: usize,
         operands: usize,

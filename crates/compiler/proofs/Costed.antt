@@ -8,9 +8,9 @@ use borrow.Author.Tests.{leb-true, leb-false}
 use lib.Dec.{leb}
 use lib.ListN.{length, getD, replicate, length-map}
 use lib.Seq.{sets}
-use Rattle.word.specs.Records.{rec, records, recordAt, recordsOf}
+use Rattle.word.specs.Records.{rec, records, recordsOf}
 use Rattle.word.specs.declared.Record.{Record}
-use Rattle.word.proofs.Memory.{Words, no-word, a-word}
+use Rattle.word.proofs.Memory.{Words}
 use Rattle.word.proofs.Records.{words-length, records-words}
 use Rattle.script.specs.Tree.{Program}
 use Rattle.script.specs.Stage.{orElse, firstFunc, overProgram}
@@ -23,6 +23,7 @@ use Rattle.script.specs.declared.First.{First}
 use Rattle.script.specs.declared.First.the-variants.{Clean, Fault}
 use Rattle.script.proofs.Leading.{from}
 use Rattle.script.proofs.Exactly.{written-read}
+use Rattle.scoping.proofs.Found.{finds}
 use Rattle.tape.specs.Instruction.{Code, program, array, write, words}
 use Rattle.tape.specs.Tape.{tapeArrays, instructions, tape}
 use Rattle.tape.specs.Steps.{most, stepsOf, stepsExposed}
@@ -36,7 +37,6 @@ use Rattle.costing.proofs.Totalled.{tape-records, counted-is, twelve, deeps-are
 use Rattle.compiler.specs.Writing.{rolls, copy, walkFs, blank, walkP, answered, known, writeOut}
 use Rattle.translation.specs.declared.Compiled.the-variants.{Refused}
 use Rattle.compiler.proofs.Tables.{copy-found, walkP-found, answers-12, answers-13, answers-tape}
-use Rattle.compiler.proofs.Walked.{found}
 use Rattle.compiler.proofs.Laying.{run, bare, run-fits}
 use Rattle.compiler.proofs.Rolling.{codeFs, funcs-walked}
 use Rattle.compiler.proofs.Depths.{Right, deeps-right, code-right, code-records}
@@ -55,8 +55,8 @@ run-A (n ∷ ns) c s = run-A ns c (puts (array n) s)
 copy-one : (t : List ℕ) (s : Sheet) (at : ℕ) {x : Record} {rest : List Record} → from t at ≡ x ∷ rest
     → (copy t (desk s at) ≡ desk (place x s) (at + 1)) × (from t (at + 1) ≡ rest)
 copy-one t s at is =
-    let (read, first, then) = found t at is in
-    (copy-found t (desk s at) (recordAt t at) _ read ∙ ap (λ (x : Record). desk (place x s) (at + 1)) first, then)
+    let (read, then) = finds t at is in
+    (copy-found t (desk s at) _ _ read, then)
 
 arrays-walked : (t ns : List ℕ) (s : Sheet) (at end : ℕ) {rest : List Record} → from t at ≡ listArrays ns rest → end ≡ at + length ns
     → (times (length ns) (copy t) (desk s at) ≡ desk (layA ns s) end) × (from t end ≡ rest)
@@ -85,11 +85,9 @@ module _ (t : List ℕ) (p : Program) (w : Within p) (is : recordsOf t ≡ listi
       let row : List ℕ = replicate 16 0 in
       let s₁ = place (rec 1 nf na 0) (blank out) in
       let s₂ = layA (p .arrays) s₁ in
-      let (read, first, none) = found t 0 is in
       let (q, then) = copy-one t (blank out) 0 is in
       let (q₁, rest) = arrays-walked t (p .arrays) s₁ 1 (1 + na) then refl in
-      walkP-found t deeps out (recordAt t 0) _ read
-      ∙ ap (λ (x : Record). walkFs t deeps (x .p) 0 (rolls (times (x .q) (copy t) (copy t (desk (blank out) 0))) row)) first
+      walkP-found t deeps out _ _ (finds t 0 is .0)
       ∙ ap (λ (z : Desk). walkFs t deeps nf 0 (rolls (times na (copy t) z) row)) q ∙ ap (λ (z : Desk). walkFs t deeps nf 0 (rolls z row)) q₁
       ∙ funcs-walked t deeps (w .funcs) s₂ (1 + na) rest ∙ ap (λ (z : Sheet). z .words) (sym (run-A (p .arrays) (codeFs deeps 0 (p .funcs)) s₁))
 
@@ -102,7 +100,7 @@ module _ (t : List ℕ) (p : Program) (w : Within p) (is : recordsOf t ≡ listi
   unfolding codeP instructions translate
   codeP-right right = rw (length-map (p .funcs) FDEFT, code-right (w .funcs) right) refl
 
-  pub tape-words : length (tape (translate p)) ≡ length (instructions (translate p)) * 4
+  tape-words : length (tape (translate p)) ≡ length (instructions (translate p)) * 4
   unfolding tape words
   tape-words =
       let c = instructions (translate p) in
@@ -117,11 +115,6 @@ module _ (t : List ℕ) (p : Program) (w : Within p) (is : recordsOf t ≡ listi
   wet-words deeps out right room =
       let fits = run-fits (codeP deeps p) out 0 (few deeps) (omega (arith, codeP-records deeps, tape-words)) in
       table-walked deeps out ∙ ap (λ (s : Sheet). s .words) fits ∙ ap (λ (c : Code). sets out 0 (words c)) (codeP-right right)
-
--- the words of a lent table
-pub words-of : (t : List ℕ) → ((k : ℕ) → getD t k 0 < 2 ^ 32) → Words t
-words-of [] h = no-word
-words-of (v ∷ t) h = a-word (h 0) (words-of t (λ k. h (suc k)))
 
 cost-last : (r : First) → orElse r Clean ≡ r
 unfolding orElse

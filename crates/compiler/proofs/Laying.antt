@@ -23,7 +23,7 @@ run (i ∷ c) s = run c (puts i s)
 mutual
   unfolding tapeE layE run
 
-  pub run-E : (e : CExpr) (c : Code) (s : Sheet) → run (tapeE e c) s ≡ run c (layE e s)
+  run-E : (e : CExpr) (c : Code) (s : Sheet) → run (tapeE e c) s ≡ run c (layE e s)
   run-E (LIT v) c s = refl
   run-E (VAR x) c s = refl
   run-E (GET a i) c s = run-E i (get a ∷ c) s

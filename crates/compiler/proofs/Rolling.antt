@@ -5,13 +5,14 @@ use Prim.Native.Nat.{ℕ, suc, _+_, min}
 use native.Mathlib.Omega.{arith}
 use native.Mathlib.Numerals.{add-one}
 use lib.ListN.{length, getD, set as keep}
-use Rattle.word.specs.Records.{rec, recordAt}
+use Rattle.word.specs.Records.{rec}
 use Rattle.word.specs.declared.Record.{Record}
 use Rattle.script.specs.Tree.{Func, sizeF, sizeS}
 use Rattle.script.specs.Parse.{entered, passed}
 use Rattle.script.specs.Written.{listS, listFuncs, headOf, InFunc, InFuncs, none-left, one-more}
 use Rattle.script.specs.declared.Env.{Env}
 use Rattle.script.proofs.Leading.{from}
+use Rattle.scoping.proofs.Found.{finds}
 use Rattle.tape.specs.Instruction.{Code, cfunc, ret}
 use Rattle.tape.specs.Tape.{tapeE, tapeS}
 use Rattle.tape.specs.Held.{hold}
@@ -20,7 +21,7 @@ use Rattle.emitting.specs.Emitting.{Sheet, puts, layS}
 use Rattle.emitting.specs.Walking.{Desk, desk, on}
 use Rattle.compiler.specs.Writing.{Rolls, rolls, heads, bodyOf, walkF, walkFs}
 use Rattle.compiler.proofs.Tables.{walkF-found}
-use Rattle.compiler.proofs.Walked.{found, stmt-walked}
+use Rattle.compiler.proofs.Walked.{stmt-walked}
 use Rattle.compiler.proofs.Laying.{run, run-S}
 
 -- ---- one function, its CFUNC with the depth that is given
@@ -49,15 +50,13 @@ module _ (t deeps : List ℕ) where
       let n = g .slots in
       let end = at + suc (sizeS (g .body)) in
       let z = rolls (desk s at) (v .params) in
-      let (read, first, then) = found t at is in
+      let (read, then) = finds t at is in
       let begun = heads (g .params) n (getD deeps f 0) s in
       let (q, after) = stmt-walked t (entered v (headOf g)) n (g .body) 16 0 (at + 1) end begun then (h .deep) (h .body) (omega arith) in
       let few : min n 32 ≡ n = omega (arith, h .slots) in
       let body : bodyOf t deeps f (min n 32) (rec 3 (g .params) n 0) (record { at = at + 1 }) z ≡ desk (layF (getD deeps f 0) g s) end =
       ap (λ (k : ℕ). bodyOf t deeps f k (rec 3 (g .params) n 0) (record { at = at + 1 }) z) few ∙ ap (on (puts (ret n))) q in (
-        walkF-found t deeps f z (recordAt t at) _ read
-            ∙ ap (λ (x : Record). rolls (bodyOf t deeps f (min (x .q) 32) x (record { at = at + 1 }) z) (keep (v .params) f (x .p))) first
-            ∙ ap (λ (b : Desk). rolls b (keep (v .params) f (g .params))) body,
+        walkF-found t deeps f z _ _ read ∙ ap (λ (b : Desk). rolls b (keep (v .params) f (g .params))) body,
         after,
       )
 

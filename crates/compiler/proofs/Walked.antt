@@ -3,29 +3,20 @@ use mathlib.Core.Path.{_≡_, refl, sym, ap, _∙_}
 use mathlib.Core.List.{List, [], _∷_}
 use Prim.Native.Nat.{ℕ, zero, suc, _+_, _-_, _≤_}
 use native.Mathlib.Omega.{arith}
-use borrow.Author.Tests.{lt-ltb}
 use Rattle.word.specs.Value.{Op, add, sub, mul, shl, shr, and, or, eq, ne, gt, lt, ge, le, land, lor}
 use Rattle.word.specs.Code.{code}
-use Rattle.word.specs.Records.{recordAt}
-use Rattle.word.specs.Reader.{readAt, foundIf}
 use Rattle.word.specs.declared.Record.{Record}
-use Rattle.word.specs.declared.reader.Read.the-variants.{Found}
 use Rattle.script.specs.Tree.{Expr, num, tru, fls, var, get, lnot, bnot, bin, call, Exprs, none, more, Stmt, skip, seq, def, set, put, for, if, return, Stmts, done, next, sizeE, sizeEs, sizeS, sizeSs}
 use Rattle.script.specs.Table.{HeadE, NUM, TRUE, FALSE, VAR, GET, LNOT, BNOT, BIN, CALL, HeadS, SKIP, SEQ, DEF, SET, PUT, FOR, IF, RETURN, readE, writeE, readS, writeS, expression, statement}
 use Rattle.script.specs.Written.{countE, countS, listE, listEs, listS, listSs, depthE, depthEs, depthS, depthSs, InE, InEs, Inside, Insides}
 use Rattle.script.specs.declared.Env.{Env}
-use Rattle.script.proofs.Leading.{from, first-from, expression-lawful, statement-lawful}
+use Rattle.script.proofs.Leading.{from, expression-lawful, statement-lawful}
+use Rattle.scoping.proofs.Found.{finds}
 use Rattle.tape.specs.Instruction.{def as core-def, end as core-end}
 use Rattle.translation.specs.Translate.{lowered, EXT, EXTs, layout, merge, STT, STTs}
 use Rattle.emitting.specs.Emitting.{Sheet, puts, layE, layEs, layS, masks, merges, assigns, stores, gives, flips}
 use Rattle.emitting.specs.Walking.{Desk, desk, on, times, looping, loweredCode, arity, own, walkE, putting, branching, headS, walkS}
 use Rattle.emitting.proofs.Stepping.{walkE-found, walkS-found}
-
--- a record that stands there is read
-pub found : (t : List ℕ) (at : ℕ) {x : Record} {rest : List Record} → from t at ≡ x ∷ rest
-    → (readAt t at ≡ Found (recordAt t at) (record { at = at + 1 })) × (recordAt t at ≡ x) × (from t (at + 1) ≡ rest)
-unfolding readAt foundIf
-found t at is = let (there, first, rest) = first-from t at is in (rw (lt-ltb _ _ there) refl, first, rest)
 
 -- && and ||, by their codes
 lowered-code : (o : Op) → loweredCode (code o) ≡ code (lowered o)
@@ -71,10 +62,9 @@ module _ (t : List ℕ) (v : Env) where
       × (from t (at + 1) ≡ rest)
   unfolding expression
   head-E h left at s is some =
-      let (read, first, rest) = found t at is in
-      let e : readE (recordAt t at) ≡ h = ap readE first ∙ expression-lawful .again h in (
+      let (read, rest) = finds t at is in (
         walkE-found (v .params) t left (desk s at) _ _ (omega arith) read
-            ∙ ap (λ (g : HeadE). on (own g) (times (arity (v .params) g) (walkE (v .params) t (left - 1)) (desk s (at + 1)))) e,
+            ∙ ap (λ (g : HeadE). on (own g) (times (arity (v .params) g) (walkE (v .params) t (left - 1)) (desk s (at + 1)))) (expression-lawful .again h),
         rest,
       )
 
@@ -84,7 +74,7 @@ module _ (t : List ℕ) (v : Env) where
   mutual
     unfolding listE depthE InE sizeE countE own arity times EXT layE
 
-    pub expr-walked : (x : Expr) (left at end : ℕ) (s : Sheet) {rest : List Record} → from t at ≡ listE x rest → depthE x ≤ left → InE v x → end ≡ at + sizeE x
+    expr-walked : (x : Expr) (left at end : ℕ) (s : Sheet) {rest : List Record} → from t at ≡ listE x rest → depthE x ≤ left → InE v x → end ≡ at + sizeE x
         → Leaves (walkE (v .params) t left (desk s at)) (layE (EXT x) s) end rest
     expr-walked (num n) left at end s is d i e = leaf e (head-E (NUM n) left at s is d)
     expr-walked tru left at end s is d i e = leaf e (head-E TRUE left at s is d)
@@ -130,10 +120,9 @@ module _ (t : List ℕ) (v : Env) where
         × (from t (at + 1) ≡ rest)
     unfolding statement
     head-S h left d at s is some =
-        let (read, first, rest) = found t at is in
-        let e : readS (recordAt t at) ≡ h = ap readS first ∙ statement-lawful .again h in (
+        let (read, rest) = finds t at is in (
           walkS-found (v .params) t (layout n) left d (desk s at) _ _ (omega arith) read
-              ∙ ap (headS (v .params) t (layout n) (walkS (v .params) t (layout n) (left - 1)) d (desk s (at + 1))) e,
+              ∙ ap (headS (v .params) t (layout n) (walkS (v .params) t (layout n) (left - 1)) d (desk s (at + 1))) (statement-lawful .again h),
           rest,
         )
 

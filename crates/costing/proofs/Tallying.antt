@@ -43,7 +43,7 @@ nothing-more n h =
     let e : n ≡ n + 0 = omega arith in
     sym h ∙ ap hold e
 
-pub past-held : (a b : ℕ) (c : Count) → Held (past a b c)
+past-held : (a b : ℕ) (c : Count) → Held (past a b c)
 unfolding past
 past-held a b c = (hold-hold (c .records + a), hold-hold (c .steps + b))
 

@@ -33,7 +33,7 @@ module _ (params κ : List ℕ) where
   unfolding tally
   tally-none p c e = rw e refl
 
-  pub tally-on : (x : Record) (xs : List Record) (p : ℕ) (c : Count) → 0 < p
+  tally-on : (x : Record) (xs : List Record) (p : ℕ) (c : Count) → 0 < p
       → tally params κ (x ∷ xs) p c ≡ tally params κ xs (hold (p - 1 + arityOf params x)) (past 1 (weight κ x) c)
   unfolding tally tallyOne
   tally-on x xs p c some =

@@ -7,7 +7,8 @@ use Rattle.costing.specs.Totals.{Outcome as Known}
 use Rattle.costing.proofs.Turns.{counted-length}
 use Rattle.compiler.specs.Writing.{walkP, answered}
 use Rattle.compiler.proofs.Tables.{answers-12, answers-13, answers-tape}
-use Rattle.compiler.proofs.Costed.{words-of, written-is}
+use Rattle.word.proofs.Memory.{words-of}
+use Rattle.compiler.proofs.Costed.{written-is}
 use borrow.Author.Needs.{needs}
 use Rattle.compiler.proofs.answer.write_out.Statement.{statement}
 use Rattle.compiler.proofs.answer.write_out.Tie as tie

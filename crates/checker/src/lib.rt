@@ -1,4 +1,6 @@
 // The check of a core tape: any list of words, refusals 21 to 30.
+#![tactic(auto)]
+
 mod advance;
 pub mod check;
 mod faults;

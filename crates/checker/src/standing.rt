@@ -4,7 +4,7 @@ ghost use Rattle.tape.specs.Scan.{start};
 ghost use Rattle.checker.specs.Standing.{Functions, Bodies, scan_of};
 
 // What is due: PROGRAM, an ARRAY, a CFUNC, a record of a function's body, or nothing more.
-#[derive(Drop)]
+#[derive(Clone, Copy)]
 pub enum Due {
     Program,
     Array,
@@ -15,7 +15,7 @@ pub enum Due {
 
 // The numbers of the scan: what is due; the functions and arrays of PROGRAM; how many functions are known, their RETs passed; of the present
 // function its parameters, slots and CFUNC; and of its innermost open body the operands that wait, its steps so far, and the loops round it.
-#[derive(Drop)]
+#[derive(Clone, Copy)]
 pub struct Standing {
     pub due: Due,
     pub functions: u32,

@@ -1,4 +1,6 @@
 // The compiler: from a table of script records to a core tape.
+#![tactic(auto)]
+
 mod answer;
 mod function;
 mod masks;

@@ -10,7 +10,7 @@ use word::reader::{Read, Reader};
 
 // The record that is read next; the core records and the steps so far, held at one more than the limit; and the deepest IF nesting. All fields have one width, because
 // what is written narrow and read wide again makes the processor wait, here at each statement.
-#[derive(Drop)]
+#[derive(Clone, Copy)]
 pub struct Count {
     pub at: Reader,
     pub records: usize,

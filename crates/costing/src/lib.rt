@@ -1,5 +1,7 @@
 // The cost of a script table that was judged: its core records, the steps of its functions (refusal 12) and their deepest IF nestings. Counted by the translation's
 // figures; nothing is written.
+#![tactic(auto)]
+
 mod count;
 mod statement;
 
@@ -13,7 +15,7 @@ use tape::held::{more, short};
 use word::reader::Read;
 
 // The records needed and the exposed function's steps; or the FUNC of the first function that takes over a thousand million.
-#[derive(Drop)]
+#[derive(Clone, Copy)]
 pub enum Cost {
     Within { records: u32, steps: u32 },
     Over(usize),

@@ -8,7 +8,7 @@ use tape::held::more;
 pub const TRUE: u32 = 4294967295;
 
 // The record that is written next, held at one more than the limit of 12. No tape has as many.
-#[derive(Drop)]
+#[derive(Clone, Copy)]
 pub struct Emitter {
     pub at: usize,
 }

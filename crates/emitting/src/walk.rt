@@ -6,7 +6,7 @@ ghost use Rattle.emitting.specs.Walking.{desk, desk_of};
 use crate::emitter::Emitter;
 use word::reader::Reader;
 
-#[derive(Drop)]
+#[derive(Clone, Copy)]
 pub struct Walk {
     pub reader: Reader,
     pub emitter: Emitter,

@@ -9,7 +9,7 @@ ghost use Rattle.machine.specs.Flat.{sizes, places_of, is_accepted};
 use crate::reading::record;
 
 // Where each array begins in the memory, and how many bytes there are in all.
-#[derive(Drop)]
+#[derive(Clone, Copy)]
 pub(crate) struct Arrays {
     pub starts: [u32; 8],
     pub total: u32,
@@ -35,7 +35,7 @@ pub(crate) fn lay_out(tape: &[u32]) -> Arrays
 }
 
 // The record of each function's CFUNC, and how many functions there are.
-#[derive(Drop)]
+#[derive(Clone, Copy)]
 pub(crate) struct Functions {
     pub places: [u32; 16],
     pub count: usize,

@@ -1,4 +1,6 @@
 // The machine: checks any tape and runs it on arguments and a lent memory, under a step limit.
+#![tactic(auto)]
+
 mod calls;
 mod course;
 mod layout;
@@ -16,7 +18,7 @@ use course::admit;
 use tape::Checked;
 
 // Done, with the value and the steps; Stopped by the limit, with the steps done and the record of the next counted step; or Refused.
-#[derive(Drop)]
+#[derive(Clone, Copy)]
 pub enum Ran {
     Done { value: u32, steps: u32 },
     Stopped { steps: u32, record: usize },

@@ -4,7 +4,7 @@ ghost use Rattle.machine.specs.Flat.{free, count, frame};
 
 // The present record; how many operands and open loops there are; where the present function's slots begin and end; how many calls are
 // open; and the steps counted.
-#[derive(Drop)]
+#[derive(Clone, Copy)]
 pub struct Registers {
     pub at: usize,
     pub operands: usize,

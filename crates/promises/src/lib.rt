@@ -1,1 +1,2 @@
 // The promises: each demand as a theorem, in proofs/. There is no code here.
+#![tactic(auto)]

@@ -13,14 +13,14 @@ use word::Record;
 use word::reader::{Read, Reader};
 
 // What was due is there, and the reader is past it; or the first fault.
-#[derive(Drop)]
+#[derive(Clone, Copy)]
 pub enum Walk {
     On(Reader),
     Stop { number: u32, place: usize },
 }
 
 // How many IFs and FORs lie round a statement.
-#[derive(Drop)]
+#[derive(Clone, Copy)]
 pub struct Nesting {
     pub ifs: u32,
     pub fors: u32,

@@ -8,7 +8,7 @@ ghost use Rattle.script.specs.declared.Env.{Env};
 use word::Record;
 
 // What the fields are tested against, beside the present function: how many slots and arrays there are.
-#[derive(Drop)]
+#[derive(Clone, Copy)]
 pub struct Room {
     pub slots: u32,
     pub arrays: u32,

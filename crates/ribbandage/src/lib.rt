@@ -1,4 +1,6 @@
 // The library that others link: the compiler, the check and the machine as C functions. A refusal's number is 0 where there is none.
+#![tactic(auto)]
+
 ghost use Rattle.std.specs.Prelude.{◌≡◌};
 ghost use Rattle.tape.specs.Check.{check};
 ghost use Rattle.machine.specs.Run.{run};
@@ -12,7 +14,7 @@ use translation::Compiled;
 
 // A table that was compiled: the records written and the exposed function's steps; or the refusal's number and place.
 #[repr(C)]
-#[derive(Drop)]
+#[derive(Clone, Copy)]
 pub struct RibbandCompiled {
     pub number: u32,
     pub steps: u32,
@@ -22,7 +24,7 @@ pub struct RibbandCompiled {
 
 // A tape that was checked: the steps of its exposed function; or the refusal's number and place.
 #[repr(C)]
-#[derive(Drop)]
+#[derive(Clone, Copy)]
 pub struct RibbandChecked {
     pub number: u32,
     pub steps: u32,
@@ -32,7 +34,7 @@ pub struct RibbandChecked {
 // A run: its case is 0 for Done, with value and steps; 1 for Stopped, with the steps done and, as the place, the record of the next counted step; 2 for
 // Refused, with number and place.
 #[repr(C)]
-#[derive(Drop)]
+#[derive(Clone, Copy)]
 pub struct RibbandRan {
     pub case: u32,
     pub number: u32,

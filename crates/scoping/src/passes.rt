@@ -9,7 +9,7 @@ use word::Record;
 use word::reader::{Read, Reader};
 
 // What PROGRAM says: how many functions there are, and where the first one begins, after the arrays.
-#[derive(Drop)]
+#[derive(Clone, Copy)]
 pub struct Heading {
     pub functions: u32,
     pub first: Reader,

@@ -14,7 +14,7 @@ use word::reader::{Read, Reader};
 use word::sets::{below, has, put};
 
 // What is visible, as a DEF's slot or as a parameter or a loop's, and which slots were declared so far.
-#[derive(Drop)]
+#[derive(Clone, Copy)]
 pub struct Slots {
     pub defined: u32,
     pub fixed: u32,
@@ -22,14 +22,14 @@ pub struct Slots {
 }
 
 // The cursor past a statement's expressions; or the first fault in them.
-#[derive(Drop)]
+#[derive(Clone, Copy)]
 pub enum Seek {
     Past(Reader),
     Stop { number: u32, place: usize },
 }
 
 // The cursor past a statement, with the slots after it; or the first fault in it.
-#[derive(Drop)]
+#[derive(Clone, Copy)]
 pub enum Walk {
     On { at: Reader, slots: Slots },
     Stop { number: u32, place: usize },

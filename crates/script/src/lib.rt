@@ -1,9 +1,10 @@
 // The script language: what its definitions need of the code. The definitions are in specs, their laws in proofs; the code that reads and judges a table stands in
 // the crates reading and stages.
+#![tactic(auto)]
 
 // What a record's fields are tested against: how many slots and arrays there are, which function this is, and how many parameters each
 // lower one has (0 for the others).
-#[derive(Drop)]
+#[derive(Clone, Copy)]
 pub struct Env {
     pub slots: u32,
     pub arrays: u32,
@@ -12,7 +13,7 @@ pub struct Env {
 }
 
 // The first record at fault in a stage, with the refusal's number; or none is.
-#[derive(Drop)]
+#[derive(Clone, Copy)]
 pub enum First {
     Clean,
     Fault { number: u32, place: usize },

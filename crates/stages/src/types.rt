@@ -13,7 +13,7 @@ use word::reader::{Read, Reader};
 use word::sets::{has, put};
 
 // Whether an expression is a boolean, the first fault in it, and the cursor past it.
-#[derive(Drop)]
+#[derive(Clone, Copy)]
 pub struct Typed {
     pub boolean: bool,
     pub first: First,
@@ -22,7 +22,7 @@ pub struct Typed {
 
 // What is known of a record's expressions so far: whether there was none, whether the first one is a boolean, whether all are numbers, whether all are
 // booleans, the first fault in them, and the cursor past them.
-#[derive(Drop)]
+#[derive(Clone, Copy)]
 pub struct Parts {
     pub fresh: bool,
     pub lead: bool,
@@ -33,7 +33,7 @@ pub struct Parts {
 }
 
 // The cursor past a statement, with the slots that are booleans after it; or the first fault in it.
-#[derive(Drop)]
+#[derive(Clone, Copy)]
 pub enum Walk {
     On { at: Reader, slots: u32 },
     Stop { number: u32, place: usize },

@@ -1,4 +1,6 @@
 // The swatch cases, through the compiler and the machine: each is printed with its answer.
+#![tactic(auto)]
+
 mod arrays;
 mod branches;
 mod loops;

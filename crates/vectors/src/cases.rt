@@ -8,7 +8,7 @@ use word::operators::plus;
 
 // Where the walk over the file stands: the place; how many words the latest compiled tape has, and the latest tape that stood in the file; which of the two
 // is the later one; and what was counted so far.
-#[derive(Drop)]
+#[derive(Clone, Copy)]
 pub struct Standing {
     pub at: usize,
     pub own: usize,

@@ -9,7 +9,7 @@ const MARK: u32 = 7;
 
 // A table that was compiled: the place after its case, how many words the latest tape has now, whether the file has the table accepted, and whether its answer
 // came out.
-#[derive(Drop)]
+#[derive(Clone, Copy)]
 pub struct CompiledCase {
     pub at: usize,
     pub count: usize,
@@ -18,7 +18,7 @@ pub struct CompiledCase {
 }
 
 // Words of the file beside words of a list: the place after them, how many there are, and whether they are the same.
-#[derive(Drop)]
+#[derive(Clone, Copy)]
 pub struct Matched {
     pub at: usize,
     pub count: usize,

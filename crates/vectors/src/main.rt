@@ -1,6 +1,8 @@
 // Compiles and runs the cases of data/base.bin, whose answers were worked out elsewhere (data/FORMAT.md), and prints how many tables were compiled, how many
 // tapes were run, how many plain meanings were compared, and how many cases differ from their answer in any number, word or byte. It takes no argument and
 // reads that one file.
+#![tactic(auto)]
+
 mod cases;
 mod compiling;
 mod reading;

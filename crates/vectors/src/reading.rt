@@ -5,21 +5,21 @@ ghost use Rattle.std.specs.Prelude.{◌≡◌, ◌≤◌, length};
 use word::operators::{plus, times};
 
 // A number, and the place after it.
-#[derive(Drop)]
+#[derive(Clone, Copy)]
 pub struct Value {
     pub value: u32,
     pub at: usize,
 }
 
 // A byte, and the place after it.
-#[derive(Drop)]
+#[derive(Clone, Copy)]
 pub struct Byte {
     pub value: u8,
     pub at: usize,
 }
 
 // How many elements were read into a lent list, and the place after them.
-#[derive(Drop)]
+#[derive(Clone, Copy)]
 pub struct Listed {
     pub count: usize,
     pub at: usize,

@@ -5,7 +5,7 @@ use crate::reading::{Value, bytes, changes, number, same, words};
 use machine::Ran;
 
 // A run's answer in the file: its case, the two numbers, and the place after it. The case of a plain meaning is 3, with its value.
-#[derive(Drop)]
+#[derive(Clone, Copy)]
 pub struct Wanted {
     pub case: u32,
     pub first: u32,
@@ -14,7 +14,7 @@ pub struct Wanted {
 }
 
 // A case that was run: the place after it, and whether its answer came out.
-#[derive(Drop)]
+#[derive(Clone, Copy)]
 pub struct Outcome {
     pub at: usize,
     pub fine: bool,

@@ -1,10 +1,10 @@
 -- The operators' laws over words: masks, ranges, types. Each is proved here once. Assumes nothing.
-use Rattle.std.proofs.Common.{◌≡◌, ℕ, suc, ◌+◌, ◌-◌, ◌*◌, ◌/◌, ◌%◌, ◌^◌, ◌<◌, ◌≤◌, Bool, true, false, cond, not, ◌&&◌, ◌||◌, T, eqb, ltb, leb, sym, refl, ap, ◌∙◌, ap₂, lt_of_le_of_lt, mod-lt, mod-eq_of_lt, div-le_self, arith, lit<, lit≤, eqb-true}
+use Rattle.std.proofs.Common.{◌≡◌, ℕ, suc, ◌+◌, ◌-◌, ◌*◌, ◌^◌, ◌<◌, ◌≤◌, Bool, true, false, cond, not, ◌&&◌, ◌||◌, T, eqb, ltb, leb, sym, refl, ap, ◌∙◌, ap₂, lt_of_le_of_lt, mod-lt, mod-eq_of_lt, div-le_self, arith, lit<, lit≤, eqb-true}
 use borrow.Author.Tests.{eqb-false}
 use lib.Bits.{and_zero_r, or_zero_r, and_comm, and_mask, and_lt, or_lt}
 use Rattle.word.specs.Value.{TRUE, FALSE, mask, truth, Op, add, sub, mul, shl, shr, and, or, eq, ne, gt, lt, ge, le, land, lor, op, flip, negate, left, left_by, right, right_by}
 use Rattle.word.specs.Code.{code, op_of}
-use Rattle.word.specs.Types.{Ty, number, boolean, Val, is_number, is_boolean, is_numeric, alike, booleans, op_ty, op_fine}
+use Rattle.word.specs.Types.{Ty, number, boolean, Val, is_number, is_boolean, alike, booleans, op_ty, op_fine}
 
 -- ---- masks
 mask_word : (b : Bool) → mask b < 2 ^ 32

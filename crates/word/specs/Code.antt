@@ -1,6 +1,6 @@
 -- Operation codes (01, "Words, values, arithmetic"): 1 to 13 on the tape, 14 and 15 in the script table also.
 -- Assumes nothing: these are definitions.
-use Rattle.std.specs.Prelude.{ℕ, Bool, cond, ◌==◌}
+use Rattle.std.specs.Prelude.{ℕ, cond, ◌==◌}
 use Rattle.word.specs.Value.{Op, add, sub, mul, shl, shr, and, or, eq, ne, gt, lt, ge, le, land, lor}
 
 unfoldable pub code : Op → ℕ

@@ -1,6 +1,6 @@
 -- Four words to a record (01, "Words, values, arithmetic"): kind, p, q, r. Records are counted from 0.
 -- Assumes nothing: these are definitions.
-use Rattle.std.specs.Prelude.{ℕ, ◌+◌, ◌*◌, ◌/◌, ◌%◌, Bool, not, ◌&&◌, List, [], ◌∷◌, ◌++◌, length, ◌==◌, nat_le, slice_index}
+use Rattle.std.specs.Prelude.{ℕ, ◌+◌, ◌*◌, ◌/◌, ◌%◌, Bool, not, ◌&&◌, List, [], ◌∷◌, length, ◌==◌, nat_le, slice_index}
 use Rattle.word.specs.declared.Record.{Record}
 
 abbrev pub rec : ℕ → ℕ → ℕ → ℕ → Record

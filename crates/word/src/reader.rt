@@ -5,13 +5,13 @@ ghost use Rattle.word.specs.Reader.{read_at};
 use crate::Record;
 
 // The record that it stands at.
-#[derive(Drop)]
+#[derive(Clone, Copy)]
 pub struct Reader {
     pub at: usize,
 }
 
 // What reading finds: a record, with the cursor past it; or the end.
-#[derive(Drop)]
+#[derive(Clone, Copy)]
 pub enum Read {
     Found(Record, Reader),
     End,

@@ -12,6 +12,7 @@ use Rattle.script.specs.Parse.{Parsed, parsed, and_then, parse_s, outermost, ent
 use Rattle.script.specs.Written.{listing, Within}
 use Rattle.script.specs.Stage.{first_func}
 use Rattle.script.specs.declared.Env.{Env}
+use Rattle.script.proofs.Headed.{func_headed, program_headed}
 use Rattle.script.proofs.Leading.{first_from, leads, function_lawful, as_parsed, then_parsed, node_parsed, one_head}
 use Rattle.script.proofs.Reading.{stmt_read}
 use Rattle.script.proofs.Exactly.{arrays_read, funcs_read, program_written}
@@ -58,8 +59,8 @@ module _ {t u : List ℕ} {k : ℕ} (𝓐 : Alike k t u) where
   unfolding parse_funcs headed
   funcs_like zero v at l fs gs i j e f = as_both (LikeFs k at) e f like_end
   funcs_like (suc n) v at l fs gs i j e f =
-      let (h, p, e₁) = node_parsed (headed _ at) (λ m o. refl) (lead function v t at) e in
-      let (g, q, f₁) = node_parsed (headed _ at) (λ m o. refl) (lead function v u at) f in
+      let (h, p, e₁) = node_parsed (func_headed n v t at) (λ m o. refl) (lead function v t at) e in
+      let (g, q, f₁) = node_parsed (func_headed n v u at) (λ m o. refl) (lead function v u at) f in
       let there = (first_from t at ((leads t at function_lawful v h).0 p).0).0 in
       let f₂ : at < k → behind_func u n v (at + 1) h ≡ parsed gs j =
       λ m. ap (behind_func u n v (at + 1)) (one_head (lead_same 𝓐 function v at l m) p q) ∙ f₁ in
@@ -82,7 +83,7 @@ record Read (t : List ℕ) (p : Program) (end : ℕ) (h : HeadP) : Type 0 where
 read_program : (t : List ℕ) (p : Program) (end : ℕ) → parse_program t ≡ parsed p end → (h : HeadP) × Read t p end h
 unfolding parse_program headed first_func
 read_program t p end e =
-    let (h, q, e₁) = node_parsed (headed _ 0) (λ m o. refl) (lead program (nowhere 0) t 0) e in
+    let (h, q, e₁) = node_parsed (program_headed t 0) (λ m o. refl) (lead program (nowhere 0) t 0) e in
     let (ls, i, r, e₂) = then_parsed (parse_arrays h.arrays t (0 + 1)) e₁ in
     let (fs, j, o, e₃) = then_parsed (parse_funcs h.functions (nowhere h.arrays) t i) e₂ in
     let a = arrays_read t h.arrays (0 + 1) ls i r in

@@ -18,6 +18,7 @@ use Rattle.script.specs.Table.{program, array, function, lead}
 use Rattle.script.specs.Parse.{Parsed, parsed, refused, and_then, parse_e, Nest, parse_s, outermost, entered, passed, func_of, headed, parse_funcs, nowhere, parse_arrays, parse_program, wholly, read_table}
 use Rattle.script.specs.Written.{list_s, list_arrays, list_funcs, listing, table, head_of, InFunc, InFuncs, none_left, one_more, InArrays, no_array, an_array, Within}
 use Rattle.script.specs.declared.Env.{Env}
+use Rattle.script.proofs.Headed.{array_headed, func_headed, program_headed}
 use Rattle.script.proofs.Sizes.{size_fs, listing_size}
 use Rattle.script.proofs.Leading.{from, leads, leads_on, program_lawful, array_lawful, function_lawful, never, as_parsed, then_parsed, node_parsed}
 use Rattle.script.proofs.Reading.{ExprAt, StmtAt, two, expr_read, stmt_read}
@@ -46,7 +47,7 @@ unfolding parse_arrays headed array list_arrays
 arrays_read t zero at lengths end e =
     as_parsed (ArraysAt t 0 at) e (record { is = refl; count = refl; fits = no_array; ends = omega arith })
 arrays_read t (suc n) at lengths end e =
-    let (l, q, e₁) = node_parsed (headed _ at) (λ k p. refl) (lead array (nowhere 0) t at) e in
+    let (l, q, e₁) = node_parsed (array_headed n t at) (λ k p. refl) (lead array (nowhere 0) t at) e in
     let (is, range) = (leads t at array_lawful (nowhere 0) l).0 q in
     let (low, high) = two (leb 1 l) (leb l 4096) range in
     let (ls, j, p, e₂) = then_parsed (parse_arrays n t (at + 1)) e₁ in
@@ -71,7 +72,7 @@ unfolding parse_funcs headed function func_of list_funcs size_fs size_f
 funcs_read t zero v at fs end e =
     as_parsed (FuncsAt t 0 v at) e (record { is = λ h. h; count = refl; fits = λ w. none_left; ends = omega arith })
 funcs_read t (suc n) v at fs end e =
-    let (h, q, e₁) = node_parsed (headed _ at) (λ k p. refl) (lead function v t at) e in
+    let (h, q, e₁) = node_parsed (func_headed n v t at) (λ k p. refl) (lead function v t at) e in
     let (is, range) = (leads t at function_lawful v h).0 q in
     let (s, i, p, e₂) = then_parsed (parse_s 16 outermost (entered v h) t (at + 1)) e₁ in
     let (gs, j, o, e₃) = then_parsed (parse_funcs n (passed v h) t i) e₂ in
@@ -106,7 +107,7 @@ record ProgramAt (t : List ℕ) (p : Program) (end : ℕ) : Type 0 where
 program_read : (t : List ℕ) (p : Program) (end : ℕ) → records t ≤ end → parse_program t ≡ parsed p end → ProgramAt t p end
 unfolding parse_program headed program listing
 program_read t p end last e =
-    let (h, q, e₁) = node_parsed (headed _ 0) (λ k o. refl) (lead program (nowhere 0) t 0) e in
+    let (h, q, e₁) = node_parsed (program_headed t 0) (λ k o. refl) (lead program (nowhere 0) t 0) e in
     let (is, range) = (leads t 0 program_lawful (nowhere 0) h).0 q in
     let (ls, i, o, e₂) = then_parsed (parse_arrays h.arrays t (0 + 1)) e₁ in
     let (fs, j, r, e₃) = then_parsed (parse_funcs h.functions (nowhere h.arrays) t i) e₂ in

@@ -1,5 +1,4 @@
 -- 8 and 9, worked out on a SET of each kind of slot: one that is not visible, a parameter, and one that was declared. Assumes nothing.
-use Prim.Native.Nat.{ℕ}
 use mathlib.Core.Path.{◌≡◌, refl}
 use Rattle.script.specs.Tree.{Stmt, Func, num, def, set, seq, next, done}
 use Rattle.script.specs.Stage.{clean, fault}

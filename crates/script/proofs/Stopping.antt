@@ -16,6 +16,7 @@ use Rattle.script.specs.Tree.{Expr, Stmt, Program}
 use Rattle.script.specs.Table.{HeadE, NUM, TRUE, FALSE, VAR, GET, LNOT, BNOT, BIN, CALL, HeadS, SKIP, SEQ, DEF, SET, PUT, FOR, IF, RETURN, Class, expression, statement, program, array, function, Lead, node, fault, lead_by, lead}
 use Rattle.script.specs.Parse.{Parsed, parsed, refused, and_then, parts, build_e, enter_e, too_deep, parse_e, Nest, nests, inside, sequence, build_s, enter_if, enter_s, parse_s, outermost, entered, passed, headed, parse_funcs, nowhere, parse_arrays, parse_program, wholly, read_table}
 use Rattle.script.specs.declared.Env.{Env}
+use Rattle.script.proofs.Headed.{array_headed, func_headed, program_headed}
 
 -- ---- tables whose first k records are the same
 pub record Alike (k : ℕ) (t u : List ℕ) : Type 0 where
@@ -173,20 +174,20 @@ module _ {t u : List ℕ} {k : ℕ} (𝓐 : Alike k t u) where
   unfolding parse_arrays headed
   arrays_kept zero at l = kept l
   arrays_kept (suc n) at l =
-      kept_lead array (nowhere 0) at (headed _ at) (headed _ at) (λ k p. (refl, refl)) l
+      kept_lead array (nowhere 0) at (array_headed n t at) (array_headed n u at) (λ k p. (refl, refl)) l
       (λ h m. kept_then (arrays_kept n (at + 1) m) (λ ls j o. kept o))
 
   funcs_kept : (n : ℕ) (v : Env) (at : ℕ) → at ≤ records t → Kept at (parse_funcs n v t at) (parse_funcs n v u at)
   unfolding parse_funcs headed
   funcs_kept zero v at l = kept l
   funcs_kept (suc n) v at l =
-      kept_lead function v at (headed _ at) (headed _ at) (λ k p. (refl, refl)) l
+      kept_lead function v at (func_headed n v t at) (func_headed n v u at) (λ k p. (refl, refl)) l
       (λ h m. kept_then (stmt_kept 16 outermost (entered v h) (at + 1) m) (λ s j o. kept_then (funcs_kept n (passed v h) j o) (λ fs i q. kept q)))
 
   program_kept : Kept 0 (parse_program t) (parse_program u)
   unfolding parse_program headed
   program_kept =
-      kept_lead program (nowhere 0) 0 (headed _ 0) (headed _ 0) (λ k p. (refl, refl)) (omega arith)
+      kept_lead program (nowhere 0) 0 (program_headed t 0) (program_headed u 0) (λ k p. (refl, refl)) (omega arith)
       (λ h m.
       kept_then (arrays_kept h.arrays (0 + 1) m) (λ ls j l.
       kept_then (funcs_kept h.functions (nowhere h.arrays) j l) (λ fs i o. kept o)))

@@ -1,10 +1,10 @@
 -- Reading a script table: refusals 1 to 7 (01, "The script table", "Refusal numbers"). Parts are read in order, each from where the one before
 -- ended, and the first fault is the whole's. Assumes nothing: these are definitions.
-use Rattle.std.specs.Prelude.{ℕ, zero, suc, ◌+◌, List, [], ◌∷◌, Bool, true, cond, length, get_or, set, replicate, ltb, eqb}
+use Rattle.std.specs.Prelude.{ℕ, zero, suc, ◌+◌, List, [], ◌∷◌, Bool, true, cond, length, get_or, set, replicate, ltb}
 use Rattle.word.specs.Records.{records, sized}
 use Rattle.word.specs.Code.{op_of}
 use Rattle.script.specs.Tree.{Expr, num, tru, fls, var, get, lnot, bnot, bin, call, Exprs, none, more, Stmt, skip, seq, def, set as assign, put, for, if, return, Stmts, done, next, Func, Program}
-use Rattle.script.specs.Table.{HeadE, NUM, TRUE, FALSE, VAR, GET, LNOT, BNOT, BIN, CALL, HeadS, SKIP, SEQ, DEF, SET, PUT, FOR, IF, RETURN, HeadP, HeadF, expression, statement, program, array, function, Lead, node, fault, lead}
+use Rattle.script.specs.Table.{HeadE, NUM, TRUE, FALSE, VAR, GET, LNOT, BNOT, BIN, CALL, HeadS, SKIP, SEQ, DEF, SET, PUT, FOR, IF, RETURN, HeadF, expression, statement, program, array, function, Lead, node, fault, lead}
 use Rattle.script.specs.declared.Env.{Env}
 
 -- what was read, with the record after it; or the refusal's number and place

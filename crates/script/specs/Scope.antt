@@ -1,5 +1,5 @@
 -- Scope: refusals 8 and 9 (01, "Scope"). Assumes nothing: these are definitions.
-use Rattle.std.specs.Prelude.{ℕ, suc, ◌+◌, Bool, true, false, ltb}
+use Rattle.std.specs.Prelude.{ℕ, ◌+◌, Bool, true, ltb}
 use Rattle.word.specs.Slots.{upd, Seen, hidden, fixed, defined, Scope, begin}
 use Rattle.script.specs.Tree.{Expr, num, tru, fls, var, get, lnot, bnot, bin, call, Exprs, none, more, Stmt, skip, seq, def, set, put, for, if, return, Stmts, done, next, Func, size_e, size_s}
 use Rattle.script.specs.Stage.{clean, fault, or_else, Walked, goes, stops, after, onward, refuse_if, ended}

@@ -1,6 +1,6 @@
 -- Stores: refusal 11, the first PUT outside the exposed function, which is the last. Assumes nothing: these are definitions.
 use Rattle.std.specs.Prelude.{ℕ, ◌+◌, List, [], ◌∷◌}
-use Rattle.script.specs.Tree.{Expr, Stmt, skip, seq, def, set, put, for, if, return, Stmts, done, next, Func, Program, size_e, size_s, size_f}
+use Rattle.script.specs.Tree.{Stmt, skip, seq, def, set, put, for, if, return, Stmts, done, next, Func, Program, size_e, size_s, size_f}
 use Rattle.script.specs.Stage.{clean, fault, or_else, first_func}
 use Rattle.script.specs.declared.First.{First}
 

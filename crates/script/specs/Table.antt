@@ -1,6 +1,6 @@
 -- The records of a script table, each by itself (01, "The script table": the table of kinds), and the faults that one record can have:
 -- 3 (there is none), 2 (its kind), 4 (an unused word), 5 (a field). Assumes nothing: these are definitions.
-use Rattle.std.specs.Prelude.{ℕ, List, Bool, true, cond, ◌&&◌, get_or, ltb, leb, eqb}
+use Rattle.std.specs.Prelude.{ℕ, List, Bool, true, cond, ◌&&◌, ltb, leb, eqb}
 use Rattle.word.specs.Records.{rec, records, record_at, same}
 use Rattle.word.specs.declared.Record.{Record}
 use Rattle.script.specs.declared.Env.{Env}

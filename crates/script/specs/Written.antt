@@ -1,6 +1,6 @@
 -- The table of a tree, and the ranges and depths that 01 sets (01, "The script table"): what `reads_exactly` speaks of. Assumes nothing: these
 -- are definitions.
-use Rattle.std.specs.Prelude.{ℕ, zero, suc, ◌+◌, ◌^◌, ◌≤◌, ◌<◌, max, ◌≡◌, List, [], ◌∷◌, length, get_or}
+use Rattle.std.specs.Prelude.{ℕ, suc, ◌^◌, ◌≤◌, ◌<◌, max, ◌≡◌, List, [], ◌∷◌, length, get_or}
 use Rattle.word.specs.Records.{rec, words_of}
 use Rattle.word.specs.Code.{code}
 use Rattle.word.specs.declared.Record.{Record}

@@ -6,7 +6,7 @@ use native.Mathlib.Omega.{arith}
 use lib.ListN.{length, get_or, drop, drop_of_length-le}
 use Rattle.word.specs.Records.{records, record_at}
 use Rattle.tape.specs.Core.{CProgram}
-use Rattle.tape.specs.Instruction.{program, code_of, words}
+use Rattle.tape.specs.Instruction.{code_of, words}
 use Rattle.tape.specs.Tape.{instructions, tape}
 use Rattle.tape.specs.Steps.{most, steps_from, steps_of, steps_exposed}
 use Rattle.tape.specs.Scan.{Scan, known_at, start}

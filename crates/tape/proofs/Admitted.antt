@@ -1,7 +1,6 @@
 -- Every sound core tree within the limits is accepted by the check, with exactly its steps; so these are exactly the accepted tapes. Assumes nothing.
 use mathlib.Core.Path.{◌≡◌, refl, sym, ap, ◌∙◌}
 use mathlib.Core.Bool.{cond, and-eq-true_iff}
-use mathlib.Core.Bool as bool
 use mathlib.Core.List.{List, [], ◌∷◌, ◌++◌, map}
 use mathlib.Core.Logic.{◌↔◌}
 use Prim.Native.Nat.{ℕ, zero, suc, ◌+◌, ◌-◌, ◌≤◌}

@@ -137,7 +137,8 @@ module _ (lengths : List ℕ) (Δ : ℕ → Entry) where
   pub stands_alike : {m n : Machine} → Alike m n → (k : ℕ) → Alike (stands lengths Δ k m) (stands lengths Δ k n)
   unfolding stands
   stands_alike a zero = settled_alike a
-  stands_alike a (suc k) = stands_alike (step_alike (settled_alike a)) k
+  stands_alike {m = m} {n = n} a (suc k) =
+      stands_alike {m = step lengths Δ (settled lengths Δ m)} {n = step lengths Δ (settled lengths Δ n)} (step_alike (settled_alike a)) k
 
 -- two starts of one tape, on whatever arguments and bytes
 pub starts_alike : (c : Code) (values values₁ bytes bytes₁ : List ℕ) → Alike (begins c values bytes) (begins c values₁ bytes₁)

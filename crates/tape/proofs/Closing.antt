@@ -1,6 +1,6 @@
 -- What a loop leaves behind on the tape: the scope round it, and its passes' steps. Assumes nothing.
 use mathlib.Core.Path.{◌≡◌, refl}
-use Prim.Native.Nat.{ℕ, suc, ◌+◌, ◌*◌}
+use Prim.Native.Nat.{ℕ, ◌+◌, ◌*◌}
 use Rattle.tape.specs.Scan.{Body, opens, close_by, closes, states}
 use Rattle.word.specs.Slots.{Scope}
 

@@ -90,7 +90,7 @@ unfolding cexposed steps_from
 exposed_cost lengths known Φ 𝓒 k l f [] j e arguments w =
     rw (known_last known (steps_f (λ i. get_or known i 0) f) j (omega arith)) (meaning_cost lengths (λ i. get_or known i 0) Φ 𝓒.costs f arguments w)
 exposed_cost lengths known Φ 𝓒 k l f (g ∷ fs) j e arguments w =
-    exposed_cost lengths _ _ (costs_next lengths known Φ 𝓒 f k l) (suc k) (known_length known _ k l) g fs j (omega arith) arguments w
+    exposed_cost lengths (known ++ steps_f (λ i. get_or known i 0) f ∷ []) (upd Φ k (cmeaning lengths Φ f)) (costs_next lengths known Φ 𝓒 f k l) (suc k) (known_length known _ k l) g fs j (omega arith) arguments w
 
 pub nothing_costs : Costs [] cnothing
 unfolding cnothing

@@ -1,27 +1,27 @@
 -- What an accepted tape declares: its exposed function, and its arrays. Assumes nothing.
-use mathlib.Core.Path.{◌≡◌, refl, sym, ap, ◌∙◌, subst}
-use mathlib.Core.Bool.{Bool, true, false, cond, ◌&&◌, false≢true}
-use mathlib.Core.List.{List, [], ◌∷◌}
-use mathlib.Core.Logic.{◌⊎◌, inl, inr, ⊎_elim}
-use Prim.Native.Nat.{ℕ, zero, suc, ◌+◌, ◌-◌, ◌≤◌, ◌<◌}
+use mathlib.Core.Path.{◌≡◌, refl, sym, ap, ◌∙◌}
+use mathlib.Core.Bool.{true, ◌&&◌, false≢true}
+use mathlib.Core.List.{List, ◌∷◌}
+use mathlib.Core.Logic.{inr, ⊎_elim}
+use Prim.Native.Nat.{ℕ, zero, suc, ◌-◌, ◌≤◌, ◌<◌}
 use native.Mathlib.Nat.{eq-or-lt_of_le}
 use native.Mathlib.Omega.{arith}
 use borrow.Author.Tests.{eqb-true, leb-true, lt-ltb, ne_eqb}
-use lib.Dec.{ltb, leb, eqb}
+use lib.Dec.{leb}
 use lib.ListN.{length, get_or, drop}
 use Rattle.word.specs.Records.{records, record_at}
-use Rattle.tape.specs.Instruction.{Instruction, Code, program, array, cfunc, read, code_of}
+use Rattle.tape.specs.Instruction.{Instruction, program, array, read, code_of}
 use Rattle.tape.specs.Scan.{Due, a_program, an_array, a_function, a_body, nothing, Scan, known_at, start, headed, arrayed, next}
 use Rattle.tape.specs.Faults.{due, more, asks}
-use Rattle.tape.specs.Entries.{Entry, lengths_of, entries_of, entry_at, exposed}
+use Rattle.tape.specs.Entries.{lengths_of, entries_of, entry_at, exposed}
 use Rattle.tape.specs.Check.{at_end}
-use Rattle.tape.specs.declared.Checked.TheVariants.{Accepted, Refused}
+use Rattle.tape.specs.declared.Checked.TheVariants.{Accepted}
 use Rattle.tape.proofs.Cases.{read_array, read_program}
 use Rattle.tape.proofs.Reading.{code_from, code_length}
-use Rattle.tape.proofs.Places.{scan_at, Clean, Passed}
+use Rattle.tape.proofs.Places.{scan_at, Passed}
 use Rattle.tape.proofs.Declaring.{arrays_before, functions_before, length_at, lengths_all, entries_all}
 use Rattle.tape.proofs.Steady.{Fine, fine_at, both}
-use Rattle.tape.proofs.Entered.{is_array, is_program, began, Stands-at, Placed}
+use Rattle.tape.proofs.Entered.{began, Stands-at}
 use Rattle.tape.proofs.Positions.{placed_at, entry_there}
 
 over_by : (d : Due) (s : Scan) (n m : ℕ) → at_end (more d) s n ≡ Accepted m → d ≡ nothing

@@ -1,26 +1,19 @@
 -- Where the functions and the arrays of an accepted tape stand: the scan's known functions are the tape's entries, and its arrays are records 1 on.
 -- Assumes nothing.
-use mathlib.Core.Path.{◌≡◌, refl, sym, ap, ◌∙◌, subst}
-use mathlib.Core.Bool.{Bool, true, false, cond, ◌&&◌, false≢true}
-use mathlib.Core.List.{List, [], ◌∷◌, ◌++◌}
-use mathlib.Core.Logic.{◌⊎◌, inl, inr, ⊎_elim}
-use Prim.Native.Nat.{ℕ, zero, suc, ◌+◌, ◌-◌, ◌≤◌, ◌<◌}
-use native.Mathlib.Nat.{eq-or-lt_of_le}
+use mathlib.Core.Path.{◌≡◌, refl}
+use mathlib.Core.Bool.{true, false≢true}
+use mathlib.Core.List.{List}
+use mathlib.Core.Logic.{◌⊎◌}
+use Prim.Native.Nat.{ℕ, suc, ◌≤◌, ◌<◌}
 use native.Mathlib.Omega.{arith}
-use borrow.Author.Tests.{eqb-true, eqb-false, ltb-true, ltb-false}
-use lib.Dec.{ltb, leb, eqb}
-use lib.ListN.{length, get_or, drop, length-append, get_or-append}
-use lib.Seq.{get_or-append-add}
+use borrow.Author.Tests.{eqb-true}
+use lib.ListN.{length}
 use Rattle.word.specs.Records.{records, record_at}
-use Rattle.word.specs.declared.Record.{Record}
-use Rattle.tape.specs.Instruction.{Instruction, Code, program, array, cfunc, lit, var, get, not, bin, call, def, set, put, for, end, ret, other, read, code_of}
-use Rattle.tape.specs.Scan.{Due, a_program, an_array, a_function, a_body, nothing, Known, Scan, known_at, start, leaves, states, opens, closes, in_body, headed, arrayed, enters, returns, next}
+use Rattle.tape.specs.Instruction.{cfunc, read, code_of}
+use Rattle.tape.specs.Scan.{Due, a_program, an_array, a_function, a_body, nothing, Scan, known_at}
 use Rattle.tape.specs.Faults.{due, more}
-use Rattle.tape.specs.Entries.{Entry, declares, length_of, params_of, lengths_of, entries_of, entry_at}
-use Rattle.tape.proofs.Cases.{by_kind}
-use Rattle.tape.proofs.Reading.{code_from, code_length}
-use Rattle.tape.proofs.Places.{scan_at, Clean, Passed}
-use Rattle.tape.proofs.Declaring.{one_array, one_function, arrays_before, functions_before, arrays_next, functions_next, length_at, entry_at_lem}
+use Rattle.tape.proofs.Places.{scan_at}
+use Rattle.tape.proofs.Declaring.{arrays_before, functions_before}
 
 -- what a due record says of the state: which records may stand there
 pub is_body : (d : Due) (k : ℕ) → more d ≡ true → due d k ≡ true → 10 ≤ k → d ≡ a_body

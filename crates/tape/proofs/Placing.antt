@@ -1,26 +1,22 @@
 -- Each record of an accepted tape keeps what is said of where functions and arrays stand; so it holds everywhere. Assumes nothing.
-use mathlib.Core.Path.{◌≡◌, refl, sym, ap, ◌∙◌, subst}
-use mathlib.Core.Bool.{Bool, true, false, cond, ◌&&◌, false≢true}
+use mathlib.Core.Path.{◌≡◌, refl, sym, ap, ◌∙◌}
+use mathlib.Core.Bool.{Bool, true, false, cond}
 use mathlib.Core.List.{List, [], ◌∷◌, ◌++◌}
 use mathlib.Core.Logic.{◌⊎◌, inl, inr, ⊎_elim}
-use Prim.Native.Nat.{ℕ, zero, suc, ◌+◌, ◌-◌, ◌≤◌, ◌<◌}
+use Prim.Native.Nat.{ℕ, zero, suc, ◌≤◌, ◌<◌}
 use native.Mathlib.Nat.{eq-or-lt_of_le, le_of_suc-le-suc, add-zero}
 use native.Mathlib.Omega.{arith}
 use borrow.Author.Tests.{eqb-true, eqb-false, ltb-true, ltb-false}
-use lib.Dec.{ltb, leb, eqb}
-use lib.ListN.{length, get_or, drop, length-append, get_or-append}
+use lib.Dec.{ltb, eqb}
+use lib.ListN.{length, get_or, length-append, get_or-append}
 use lib.Seq.{get_or-append-add}
 use Rattle.word.specs.Records.{records, record_at}
-use Rattle.word.specs.declared.Record.{Record}
-use Rattle.tape.specs.Instruction.{Instruction, Code, program, array, cfunc, lit, var, get, not, bin, call, def, set, put, for, end, ret, other, read, code_of}
-use Rattle.tape.specs.Scan.{Due, a_program, an_array, a_function, a_body, nothing, Known, Body, Scan, known_at, opening, start, leaves, states, opens, closes, in_body, headed, arrayed, enters, returns, next}
-use Rattle.tape.specs.Faults.{due, more}
-use Rattle.tape.specs.Entries.{Entry, declares, length_of, params_of, lengths_of, entries_of, entry_at}
-use Rattle.tape.proofs.Cases.{by_kind, read_cfunc}
-use Rattle.tape.proofs.Reading.{code_from, code_length}
-use Rattle.tape.proofs.Places.{scan_at, Clean, Passed}
-use Rattle.tape.proofs.Declaring.{one_array, one_function, arrays_before, functions_before, arrays_next, functions_next}
-use Rattle.tape.proofs.Entered.{is_body, is_function, is_array, is_program, began, Stands-at, Placed}
+use Rattle.tape.specs.Instruction.{Instruction, cfunc, read, code_of}
+use Rattle.tape.specs.Scan.{Due, a_program, an_array, a_function, a_body, nothing, Known, Body, Scan, in_body, headed, arrayed, enters, returns}
+use Rattle.tape.specs.Entries.{declares}
+use Rattle.tape.proofs.Places.{scan_at}
+use Rattle.tape.proofs.Declaring.{one_array, one_function, arrays_before, functions_before}
+use Rattle.tape.proofs.Entered.{began, Stands-at, Placed}
 
 -- two dues are not the same
 number : Due → ℕ

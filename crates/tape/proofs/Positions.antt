@@ -1,23 +1,23 @@
 -- Where the functions and the arrays of an accepted tape stand, everywhere on it; and what follows of its entries and its arrays. Assumes nothing.
-use mathlib.Core.Path.{◌≡◌, refl, sym, ap, ◌∙◌, subst}
-use mathlib.Core.Bool.{Bool, true, false, cond, ◌&&◌, false≢true}
+use mathlib.Core.Path.{◌≡◌, refl, sym, ap, ◌∙◌}
+use mathlib.Core.Bool.{true, false≢true}
 use mathlib.Core.List.{List, [], ◌∷◌}
 use mathlib.Core.Logic.{◌⊎◌, inl, inr}
-use Prim.Native.Nat.{ℕ, zero, suc, ◌+◌, ◌-◌, ◌≤◌, ◌<◌}
+use Prim.Native.Nat.{ℕ, zero, suc, ◌≤◌, ◌<◌}
 use native.Mathlib.Omega.{arith}
-use borrow.Author.Tests.{eqb-true, lt-ltb, ne_eqb}
-use lib.Dec.{ltb, eqb}
-use lib.ListN.{length, get_or, drop}
+use borrow.Author.Tests.{eqb-true}
+use lib.Dec.{eqb}
+use lib.ListN.{length, drop}
 use Rattle.word.specs.Records.{records, record_at, same}
 use Rattle.word.specs.declared.Record.{Record}
-use Rattle.tape.specs.Instruction.{Instruction, Code, program, array, cfunc, other, read, write, code_of}
-use Rattle.tape.specs.Scan.{Due, a_program, an_array, a_function, a_body, nothing, Scan, known_at, start, headed, arrayed, next}
+use Rattle.tape.specs.Instruction.{Instruction, cfunc, other, write, code_of}
+use Rattle.tape.specs.Scan.{Due, a_program, an_array, a_function, a_body, nothing, start, next}
 use Rattle.tape.specs.Faults.{due, more}
-use Rattle.tape.specs.Entries.{Entry, declares, lengths_of, entries_of, entry_at}
-use Rattle.tape.proofs.Cases.{by_kind, read_cfunc, read_array, read_program}
-use Rattle.tape.proofs.Reading.{code_from, code_length}
+use Rattle.tape.specs.Entries.{declares, entry_at}
+use Rattle.tape.proofs.Cases.{by_kind, read_cfunc}
+use Rattle.tape.proofs.Reading.{code_from}
 use Rattle.tape.proofs.Places.{scan_at, Clean, Passed}
-use Rattle.tape.proofs.Declaring.{one_array, one_function, arrays_before, functions_before, arrays_next, functions_next, length_at, entry_at_lem, lengths_all, entries_all}
+use Rattle.tape.proofs.Declaring.{one_array, one_function, functions_before, arrays_next, functions_next, entry_at_lem}
 use Rattle.tape.proofs.Steady.{both}
 use Rattle.tape.proofs.Entered.{is_body, is_function, is_array, is_program, began, Stands-at, Placed}
 use Rattle.tape.proofs.Placing.{Counts, in_body_lem, ended, entered, listed, began_it}

@@ -63,6 +63,7 @@ module _ (lengths : List ℕ) (Δ : ℕ → Entry) where
       by (forward e) h l = clash (sym h)
       by (ticked e) h l = e
       by (done e) h l = e
+      by {n = n} lost h l = elim l [ ]
 
   -- what ends well, or has still to count, is not stuck
   quiet_live : (m : Machine) → quiet m ≡ true → Live m

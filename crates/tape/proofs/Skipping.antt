@@ -1,23 +1,21 @@
 -- Past a loop of an accepted tape the scan stands as it stood before its FOR: in the same function, the same loops and the same scope.
 -- Assumes nothing.
-use mathlib.Core.Path.{◌≡◌, refl, sym, ap, ◌∙◌, subst}
-use mathlib.Core.Bool.{Bool, true, false, false≢true}
+use mathlib.Core.Path.{◌≡◌, refl, sym, ap, ◌∙◌}
+use mathlib.Core.Bool.{true}
 use mathlib.Core.List.{List, [], ◌∷◌, ◌++◌}
 use Prim.Native.Nat.{ℕ, zero, suc, ◌+◌, ◌-◌, ◌≤◌, ◌<◌}
 use native.Mathlib.Omega.{arith}
 use borrow.Author.Tests.{eqb-true, leb-true}
 use lib.Dec.{leb}
 use lib.ListN.{length, drop, length-append}
-use Rattle.word.specs.Slots.{Scope}
 use Rattle.word.specs.Records.{records, record_at, same}
-use Rattle.word.specs.declared.Record.{Record}
-use Rattle.tape.specs.Instruction.{Instruction, Code, program, array, cfunc, lit, var, get, not, bin, call, def, set, put, for, end, ret, other, read, write, code_of}
+use Rattle.tape.specs.Instruction.{Instruction, Code, for, end, ret, read, write, code_of}
 use Rattle.tape.specs.Scan.{Due, a_body, nothing, Known, Open, Body, Scan, leaves, states, opens, close_by, closes, in_body, next}
-use Rattle.tape.specs.Faults.{due, more, asks}
+use Rattle.tape.specs.Faults.{due, asks}
 use Rattle.tape.specs.Rules.{past}
 use Rattle.tape.proofs.Cases.{by_kind}
 use Rattle.tape.proofs.Reading.{code_from}
-use Rattle.tape.proofs.Places.{scan_at, Clean, Passed}
+use Rattle.tape.proofs.Places.{scan_at, Passed}
 use Rattle.tape.proofs.Steady.{Asks, both}
 use Rattle.tape.proofs.Positions.{other_kind}
 use Rattle.tape.proofs.Declared.{over_at_end}

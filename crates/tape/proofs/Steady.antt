@@ -2,21 +2,21 @@
 -- function's slots. Assumes nothing.
 use mathlib.Core.Path.{◌≡◌, refl, sym, ◌∙◌, subst}
 use mathlib.Core.Bool.{Bool, true, false, cond, ◌&&◌, false≢true}
-use mathlib.Core.List.{List, [], ◌∷◌, ◌++◌}
+use mathlib.Core.List.{List, [], ◌∷◌}
 use mathlib.Core.Logic.{◌≢◌}
-use Prim.Native.Nat.{ℕ, zero, suc, ◌+◌, ◌-◌, ◌≤◌, ◌<◌}
+use Prim.Native.Nat.{ℕ, zero, suc, ◌-◌, ◌≤◌, ◌<◌}
 use native.Mathlib.Omega.{arith}
 use native.Mathlib.Decide.{ℕ_discrete}
 use borrow.Author.Tests.{eqb-true, eqb-false, leb-true, ltb-true}
 use lib.Dec.{ltb, leb, eqb}
 use lib.ListN.{length, length-append}
-use Rattle.word.specs.Slots.{upd, Seen, hidden, fixed, defined, Scope, parameter, begin}
+use Rattle.word.specs.Slots.{upd, Seen, fixed, defined, Scope, parameter, begin}
 use Rattle.word.specs.Records.{records, record_at}
 use Rattle.word.specs.declared.Record.{Record}
-use Rattle.word.proofs.Memory.{upd_same, upd_other}
-use Rattle.tape.specs.Instruction.{Instruction, program, array, cfunc, lit, var, get, not, bin, call, def, set, put, for, end, ret, other, read}
-use Rattle.tape.specs.Scan.{Due, a_program, an_array, a_function, a_body, nothing, Known, Open, Body, Scan, known_at, opening, start, leaves, states, opens, close_by, closes, in_body, headed, arrayed, enters, returns, next}
-use Rattle.tape.specs.Faults.{due, more, asks, takes, just, readable}
+use Rattle.word.proofs.Memory.{upd_other}
+use Rattle.tape.specs.Instruction.{Instruction, read}
+use Rattle.tape.specs.Scan.{Due, a_program, an_array, a_function, a_body, nothing, Open, Body, Scan, known_at, opening, start, leaves, states, opens, close_by, closes, in_body, headed, arrayed, enters, returns, next}
+use Rattle.tape.specs.Faults.{due, more, asks, takes, readable}
 use Rattle.tape.proofs.Cases.{by_kind}
 use Rattle.tape.proofs.Places.{scan_at, Clean, Passed}
 

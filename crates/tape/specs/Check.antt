@@ -1,5 +1,5 @@
 -- The check of a tape: 21; then the first record at fault, or 23; then 30 (01, "Refusal numbers"). Assumes nothing: these are definitions.
-use Rattle.std.specs.Prelude.{ℕ, zero, suc, ◌+◌, ◌-◌, List, [], ◌∷◌, Bool, true, false, cond, length, get_or, leb}
+use Rattle.std.specs.Prelude.{ℕ, zero, suc, ◌+◌, ◌-◌, List, [], ◌∷◌, Bool, true, false, cond, length, leb}
 use Rattle.word.specs.Records.{records_of, sized}
 use Rattle.word.specs.declared.Record.{Record}
 use Rattle.tape.specs.Instruction.{read}

@@ -3,7 +3,7 @@
 
 Run once, at the top, after the kit's port.py. The names are those of respelled.tsv beside this file. In sources, definitions, lemmas and
 must-fail edits each whole name is respelled; in README.md and docs/ those between backticks alone. In an edit of specs/ a projection is
-written tight and a prime is an apostrophe, as port.py has them in the files themselves. It proves nothing: `rt check` decides.
+written tight and without parentheses, and a prime is an apostrophe, as port.py has them in the files themselves. It proves nothing: `rt check` decides.
 """
 
 import os
@@ -29,6 +29,7 @@ def edit(text, names):
     text = respelled(text, names)
     if "file: specs/" in text or "file: proofs/" in text:
         text = re.sub(r"(?<=[\w₀-₉)]) \.(?=[a-z0-9])", ".", text).replace("′", "'")
+        text = re.sub(r"\((\w+(?:\.\w+)+)\)", r"\1", text)
     return text
 
 

@@ -5,34 +5,35 @@ use crate::records::{
     ADD, BIN, DEF, FALSE, FUNC, IF, LT, MUL, NUM, PROGRAM, RETURN, SEQ, SET, SKIP, TRUE, VAR,
 };
 use crate::showing::show;
+use std::io;
 
-pub fn show_branches() {
-    show_oatmeal(b"oatmeal of 10", 10);
-    show_oatmeal(b"oatmeal of 200", 200);
+pub fn show_branches(rt: &impl Print) -> io::Result<()> {
+    show_oatmeal(rt, b"oatmeal of 10", 10)?;
+    show_oatmeal(rt, b"oatmeal of 200", 200)?;
     let number = [
         PROGRAM, 1, 0, 0, FUNC, 0, 0, 0, IF, 0, 0, 0, NUM, 1, 0, 0, SKIP, 0, 0, 0, SKIP, 0, 0, 0,
     ];
-    show(b"condition NUM 1", &number, &[], &mut [], 4294967295);
-    show_nested(b"8 nested IFs", 8);
-    show_nested(b"9 nested IFs", 9);
+    show(rt, b"condition NUM 1", &number, &[], &mut [], 4294967295)?;
+    show_nested(rt, b"8 nested IFs", 8)?;
+    show_nested(rt, b"9 nested IFs", 9)
 }
 
 // f := p < 128; x := p; if f then (f := FALSE; x := x * 2) else x := x + 100; return x. Slots: p 0, f 1, x 2.
-fn show_oatmeal(name: &[u8], p: u32) {
+fn show_oatmeal(rt: &impl Print, name: &[u8], p: u32) -> io::Result<()> {
     let table = [
         PROGRAM, 1, 0, 0, FUNC, 1, 3, 0, SEQ, 4, 0, 0, DEF, 1, 0, 0, BIN, LT, 0, 0, VAR, 0, 0, 0,
         NUM, 128, 0, 0, DEF, 2, 0, 0, VAR, 0, 0, 0, IF, 0, 0, 0, VAR, 1, 0, 0, SEQ, 2, 0, 0, SET,
         1, 0, 0, FALSE, 0, 0, 0, SET, 2, 0, 0, BIN, MUL, 0, 0, VAR, 2, 0, 0, NUM, 2, 0, 0, SET, 2,
         0, 0, BIN, ADD, 0, 0, VAR, 2, 0, 0, NUM, 100, 0, 0, RETURN, 0, 0, 0, VAR, 2, 0, 0,
     ];
-    show(name, &table, &[p], &mut [], 4294967295);
+    show(rt, name, &table, &[p], &mut [], 4294967295)
 }
 
 // So many IFs of TRUE, one within another, each in the first branch of the one round it.
-fn show_nested(name: &[u8], n: u32) {
+fn show_nested(rt: &impl Print, name: &[u8], n: u32) -> io::Result<()> {
     let mut table = [0u32; 128];
     let words = nested(&mut table, n);
-    show(name, &table[..words], &[], &mut [], 4294967295);
+    show(rt, name, &table[..words], &[], &mut [], 4294967295)
 }
 
 fn nested(table: &mut [u32], n: u32) -> usize

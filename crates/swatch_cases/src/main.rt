@@ -8,9 +8,11 @@ mod records;
 mod showing;
 mod words;
 
-fn main() {
-    words::show_words();
-    branches::show_branches();
-    loops::show_loops();
-    arrays::show_arrays();
+use std::io;
+
+fn main(rt: HostRuntime) -> io::Result<()> {
+    words::show_words(&rt)?;
+    branches::show_branches(&rt)?;
+    loops::show_loops(&rt)?;
+    arrays::show_arrays(&rt)
 }

@@ -2,7 +2,7 @@
 ghost use Rattle.std.specs.Prelude.{◌≡◌, ◌≤◌, length};
 
 use crate::compiling::compile_case;
-use crate::reading::{number, words};
+use crate::decoding::{number, words};
 use crate::running::{Outcome, run_case};
 use word::operators::plus;
 

@@ -1,7 +1,7 @@
 // A case that is compiled: its answer and every word of the output are compared, those that are to stay as they were too.
 ghost use Rattle.std.specs.Prelude.{◌≡◌, ◌≤◌, length};
 
-use crate::reading::{held, number, words};
+use crate::decoding::{held, number, words};
 use translation::Compiled;
 
 // What the output holds before.

@@ -5,56 +5,67 @@
 
 mod cases;
 mod compiling;
-mod reading;
+mod decoding;
 mod running;
 
-ghost use Rattle.std.specs.Prelude.{◌≡◌, ◌≤◌, length};
+ghost use Rattle.std.specs.Prelude.{◌≡◌, ◌≤◌, length, IfOk};
 
-use cases::Standing;
-use libc::{STDERR_FILENO, STDOUT_FILENO};
+use std::fs::File;
+use std::io;
+use std::io::Read;
 
-fn main() {
-    let path = b"base.bin";
-    let fd = os::open_read(path);
-    if fd < 0 {
-        os::fail(path);
-        return;
-    }
+fn main(rt: HostRuntime) -> io::Result<()> {
+    let mut cases = File::open(&rt, "base.bin")?;
     let mut file = [0u8; 1600000];
-    read_cases(fd, &mut file);
-    libc::close(fd);
+    read_cases(&rt, &mut cases, &mut file)
 }
 
-fn read_cases(fd: i32, file: &mut [u8; 1600000]) {
-    let n = read_all(fd, file);
+fn read_cases(
+    rt: &(impl Print + Eprint),
+    cases: &mut File,
+    file: &mut [u8; 1600000],
+) -> io::Result<()> {
+    let n = read_all(cases, file)?;
     let mut own = [0u32; 20480];
     let mut given = [0u32; 4096];
-    report(file, n, &mut own, &mut given);
+    report(rt, file, n, &mut own, &mut given)
 }
 
 // How many bytes were read, which are at most those that there is room for.
-fn read_all(fd: i32, file: &mut [u8]) -> usize
-    ensures { (result ≤ length file.new) × (length file.new ≡ length file.old) }
+fn read_all(cases: &mut File, file: &mut [u8]) -> io::Result<usize>
+    ensures count { IfOk result (λ n. n ≤ length file.new) }
+    ensures room { length file.new ≡ length file.old }
 {
-    io::read_full(fd, file)
+    let mut n = 0;
+    while n < file.len() {
+        let more = cases.read(&mut file[n..])?;
+        if more == 0 {
+            return Ok(n);
+        }
+        n += more;
+    }
+    Ok(n)
 }
 
-fn report(file: &[u8], n: usize, own: &mut [u32], given: &mut [u32])
+fn report(
+    rt: &(impl Print + Eprint),
+    file: &[u8],
+    n: usize,
+    own: &mut [u32],
+    given: &mut [u32],
+) -> io::Result<()>
     requires { n ≤ length file.now }
 {
-    if !reading::is_cases(file) {
-        io::write_all(STDERR_FILENO, b"base.bin is no file of cases\n");
-        return;
+    if !decoding::is_cases(file) {
+        return eprintln!(rt; "base.bin is no file of cases");
     }
     let s = cases::all_cases(&file[..n], own, given);
-    line(b"compiled ", s.compiled);
-    line(b"run ", s.run);
-    line(b"plain ", s.plain);
-    line(b"differ ", s.differ);
+    line(rt, "compiled", s.compiled)?;
+    line(rt, "run", s.run)?;
+    line(rt, "plain", s.plain)?;
+    line(rt, "differ", s.differ)
 }
 
-fn line(name: &[u8], count: u32) {
-    io::write_all(STDOUT_FILENO, name);
-    io::print_decimal(STDOUT_FILENO, count as u64);
-    io::write_all(STDOUT_FILENO, b"\n");
+fn line(rt: &impl Print, name: &str, count: u32) -> io::Result<()> {
+    println!(rt; "{name} {count}")
 }

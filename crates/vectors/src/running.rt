@@ -1,7 +1,7 @@
 // A case that is run: its answer and every byte of its memory are compared. A PLAIN case is run to its end, and its value and bytes compared.
 ghost use Rattle.std.specs.Prelude.{◌≡◌, length};
 
-use crate::reading::{Value, bytes, changes, number, same, words};
+use crate::decoding::{Value, bytes, changes, number, same, words};
 use machine::Ran;
 
 // A run's answer in the file: its case, the two numbers, and the place after it. The case of a plain meaning is 3, with its value.

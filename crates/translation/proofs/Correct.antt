@@ -88,6 +88,7 @@ exposed_same : (lengths : List ℕ) (π : ℕ → ℕ) (k : ℕ) {Φ : ℕ → F
     → {arguments m : List ℕ} → Words arguments → Bytes m → (w : World) → w.bytes ≡ m
     → Same (cexposed lengths Ψ k (map FDEFT fs) arguments w) (exposed lengths Φ k fs arguments m)
 unfolding exposed cexposed
+exposed_same lengths π k 𝓛 [] x ws bs w q = elim x [ ]
 exposed_same lengths π k 𝓛 (f ∷ []) (the_last h) ws bs w q = func_same lengths π k 𝓛 f h ws bs w q
 exposed_same lengths π k 𝓛 (f ∷ g ∷ fs) (one_more h u r) ws bs w q =
     exposed_same lengths π (suc k) (lower_next lengths π k 𝓛 f h u) (g ∷ fs) r ws bs w q

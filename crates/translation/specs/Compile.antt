@@ -1,6 +1,6 @@
 -- The compiler's whole answer (01, "Refusal numbers"): 1 to 7; then stage by stage 8 and 9, 10, 11, 12; 13 last; else the tape.
 -- Assumes nothing: these are definitions.
-use Rattle.std.specs.Prelude.{ℕ, ◌+◌, ◌*◌, Bool, true, false, List, [], ◌∷◌, length, leb}
+use Rattle.std.specs.Prelude.{ℕ, ◌+◌, Bool, true, false, List, [], ◌∷◌, length, leb}
 use Rattle.std.proofs.lemmas.List.Edits.{sets}
 use Rattle.word.specs.Records.{records}
 use Rattle.script.specs.Tree.{Func, Program, size_f}

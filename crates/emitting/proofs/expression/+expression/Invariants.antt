@@ -1,0 +1,17 @@
+-- The measure of the cycle of calls {expression} is `left`, the depth that is left. At the loop's head what is left of the walk over the
+-- parts, from where it stands, is the walk over all of them. Assumes nothing.
+use Prim.Native.Nat.{◌-◌, ◌≤◌}
+use mathlib.Core.Path.{◌≡◌}
+use Rattle.emitting.specs.Walking.{desk_of, times, walk_e}
+use Rattle.emitting.proofs.expression.+expression.Given as goal
+
+abbrev pub decreases-expression : goal.decreases-expression
+decreases-expression l = l.left
+
+abbrev pub invariant-loop-i : goal.invariant-loop-i
+invariant-loop-i l =
+    (l.i ≤ l.parts) ×
+    (times (l.parts - l.i) (walk_e l.params l.table (l.left - 1)) (desk_of l.out l.here) ≡ times l.parts (walk_e l.params l.table (l.left - 1)) (desk_of l.initial.out l.initial.here))
+
+abbrev pub decreases-loop-i : goal.decreases-loop-i
+decreases-loop-i l = l.parts - l.i

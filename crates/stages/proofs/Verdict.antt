@@ -1,5 +1,5 @@
 -- The judgement of a table is the first fault in the order of its stages, as the code has them. Assumes nothing.
-use mathlib.Core.Path.{◌≡◌, refl, sym, ap, ◌∙◌}
+use mathlib.Core.Path.{◌≡◌, refl}
 use mathlib.Core.List.{List}
 use Prim.Native.Nat.{ℕ}
 use Rattle.word.proofs.Memory.{Words}

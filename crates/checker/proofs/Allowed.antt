@@ -1,19 +1,18 @@
 -- What a record that has no fault allows the code to do: take operands, look a function up, store into a row. Assumes nothing.
 use Prim.Native.Nat.{ℕ, suc, ◌-◌, ◌≤◌, ◌<◌}
 use native.Mathlib.Omega.{arith}
-use mathlib.Core.Path.{◌≡◌, refl, sym, ap, ◌∙◌}
-use mathlib.Core.Bool.{Bool, true, false, ◌&&◌}
-use borrow.Author.Tests.{leb-true, ltb-true, eqb-true}
+use mathlib.Core.Path.{◌≡◌, sym, ap, ◌∙◌}
+use borrow.Author.Tests.{leb-true, ltb-true}
 use lib.ListN.{length}
 use lib.Dec.{leb, ltb}
 use Rattle.word.specs.declared.Record.{Record}
-use Rattle.tape.specs.Instruction.{Instruction, call, def, for, end, ret, read}
-use Rattle.tape.specs.Scan.{Scan, Known, known_at}
+use Rattle.tape.specs.Instruction.{Instruction, read}
+use Rattle.tape.specs.Scan.{Scan, known_at}
 use Rattle.tape.specs.Faults.{takes, asks, deep}
 use Rattle.checker.specs.declared.standing.Standing.{Standing}
 use Rattle.checker.specs.Standing.{Functions, Bodies, due_of, known_of, scan_of}
 use Rattle.checker.specs.Ready.{Room, Within, Ready}
-use Rattle.tape.proofs.Cases.{read_call, read_def, read_for, read_end, read_ret}
+use Rattle.tape.proofs.Cases.{read_call, read_def, read_for, read_end}
 use Rattle.checker.proofs.Clear.{Met, met}
 use Rattle.checker.proofs.Bounds.{both_left, both_right, room}
 use Rattle.checker.proofs.Rows.{known_length, known_at_lem, opens_length}

@@ -1,5 +1,5 @@
 -- A scan keeps its bounds over a record that has no fault. Assumes nothing.
-use Prim.Native.Nat.{ℕ, zero, suc, ◌+◌, ◌-◌, ◌≤◌, ◌<◌}
+use Prim.Native.Nat.{ℕ, suc, ◌-◌, ◌≤◌, ◌<◌}
 use native.Mathlib.Omega.{arith}
 use mathlib.Core.Path.{◌≡◌, refl, sym, ap, ◌∙◌}
 use mathlib.Core.Logic.{◌⊎◌, inl, inr}
@@ -11,10 +11,10 @@ use lib.Dec.{leb, ltb, eqb}
 use Rattle.word.specs.declared.Record.{Record}
 use Rattle.tape.specs.Instruction.{Instruction, program, array, cfunc, lit, var, get, not, bin, call, def, set, put, for, end, ret, other, read}
 use Rattle.tape.specs.Scan.{Due, a_program, an_array, a_function, a_body, nothing, Known, Open, Body, Scan, start, known_at, opening, leaves, states, opens, close_by, closes, in_body, headed, arrayed, enters, returns, next}
-use Rattle.tape.specs.Faults.{due, more, takes, just, asks, Asked}
-use Rattle.checker.specs.Ready.{Room, Within, Ready, fault_but}
+use Rattle.tape.specs.Faults.{due, more, takes, asks}
+use Rattle.checker.specs.Ready.{Room, Within, fault_but}
 use Rattle.tape.proofs.Cases.{read_program}
-use Rattle.checker.proofs.Clear.{Met, met, passed, left}
+use Rattle.checker.proofs.Clear.{Met, passed, left}
 
 pub start_within : Within start
 unfolding start opening

@@ -1,14 +1,14 @@
 -- A record that has no fault meets every test; and the code's two parts of a fault, the slot rule last, are the whole. Assumes nothing.
 use Prim.Native.Nat.{ℕ, zero, suc}
 use native.Mathlib.Omega.{arith}
-use mathlib.Core.Path.{◌≡◌, refl, sym, ap, ◌∙◌}
+use mathlib.Core.Path.{◌≡◌, refl, ap, ◌∙◌}
 use mathlib.Core.Bool.{Bool, true, false}
 use Rattle.word.specs.Records.{same}
 use Rattle.word.specs.declared.Record.{Record}
 use Rattle.tape.specs.Instruction.{read, write}
 use Rattle.tape.specs.Scan.{Due, Scan}
 use Rattle.tape.specs.Faults.{Asked, due, more, asks, unless, unmet, fault}
-use Rattle.checker.specs.Ready.{spared, fields_fault, fault_but}
+use Rattle.checker.specs.Ready.{fields_fault, fault_but}
 
 pub record Met (s : Scan) (x : Record) : Type 0 where
   pub more : more s.due ≡ true

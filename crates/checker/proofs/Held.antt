@@ -1,22 +1,20 @@
 -- A check's answer depends on no more than the held counts: two scans that are alike once their counts are held have the same faults, go on
 -- alike, and end alike. Assumes nothing.
-use Prim.Native.Nat.{ℕ, zero, suc, ◌+◌, ◌*◌, ◌-◌, ◌≤◌}
-use native.Mathlib.Numerals.{add-one}
+use Prim.Native.Nat.{ℕ, zero, suc, ◌+◌, ◌-◌}
 use native.Mathlib.Omega.{arith}
 use mathlib.Core.Path.{◌≡◌, refl, sym, ap, ap₂, ◌∙◌, subst}
-use mathlib.Core.Bool.{Bool, true, false, cond}
+use mathlib.Core.Bool.{Bool, true, false}
 use mathlib.Core.List.{List, [], ◌∷◌, ◌++◌, map}
 use borrow.Author.Tests.{leb-true}
 use lib.ListN.{length, get_or, length-map, get_or-map}
-use lib.Dec.{leb}
 use Rattle.word.specs.declared.Record.{Record}
 use Rattle.tape.specs.Instruction.{Instruction, program, array, cfunc, lit, var, get, not, bin, call, def, set, put, for, end, ret, other, read}
 use Rattle.tape.specs.Steps.{most}
-use Rattle.tape.specs.Scan.{Known, Open, Body, Scan, known_at, opening, leaves, states, opens, close_by, closes, in_body, headed, arrayed, enters, returns, next}
-use Rattle.tape.specs.Faults.{more, takes, just, asks, unmet, fault, due, unless}
+use Rattle.tape.specs.Scan.{Known, Open, Scan, known_at, leaves, states, opens, close_by, closes, in_body, arrayed, enters, returns, next}
+use Rattle.tape.specs.Faults.{more, takes, just, asks, fault}
 use Rattle.tape.specs.Check.{unless_over, within, at_end, judge, scan}
 use Rattle.tape.specs.declared.Checked.{Checked}
-use Rattle.tape.specs.declared.Checked.TheVariants.{Accepted, Refused}
+use Rattle.tape.specs.declared.Checked.TheVariants.{Accepted}
 use Rattle.checker.specs.Ready.{Within}
 use Rattle.tape.specs.Held.{hold, hold_known, hold_open, held}
 use Rattle.tape.proofs.Counts.{hold_within, hold_add, hold_add_right, hold_hold, hold_suc, hold_loop, hold_leb}

@@ -1,5 +1,5 @@
 -- What the functions' proofs share: Blanks (24), Sets (slots as bits), Held, Awaited, Rows, Search, SlotRule (29), Clear, Bounds, Stores, Allowed, Walk (the
--- scan, record by record), Scanned (its state stands for the scan's), Leaving.
+-- scan, record by record), Scanned (its state stands for the scan's), Leaving, Ways (through the scan's loops).
 pub mod Blanks
 pub mod Sets
 pub mod Held
@@ -14,3 +14,4 @@ pub mod Allowed
 pub mod Walk
 pub mod Scanned
 pub mod Leaving
+pub mod Ways

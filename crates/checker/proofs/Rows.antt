@@ -12,9 +12,9 @@ use mathlib.Core.List.{List, [], ◌∷◌, ◌++◌}
 use lib.ListN.{length, get_or, set, length-append, get_or-append, get_or-eq_default}
 use lib.Seq.{get_or-set_same, get_or-set_other, get_or_at}
 use lib.Dec.{ltb, eqb}
-use Rattle.word.specs.Slots.{here, upd, Seen, hidden, fixed, defined, Scope, begin}
-use Rattle.tape.specs.Scan.{Known, Open}
-use Rattle.checker.specs.Standing.{Functions, Bodies, functions, bodies, has, insert, onto, shown_by, known_of, known_to, scope_at, opens_at}
+use Rattle.word.specs.Slots.{here, upd, Seen, hidden, fixed, defined, begin}
+use Rattle.tape.specs.Scan.{Known}
+use Rattle.checker.specs.Standing.{Functions, Bodies, bodies, has, insert, onto, shown_by, known_of, known_to, scope_at, opens_at}
 use Rattle.checker.proofs.Sets.{has_insert, has_none}
 
 abbrev pub nobody : Known

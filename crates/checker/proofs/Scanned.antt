@@ -1,9 +1,9 @@
 -- What holds between two records of the scan: the rows are as long as they are, the bounds are kept, and what is left of the scan is the whole
 -- scan's answer. Assumes nothing.
 use Prim.Native.Nat.{ℕ, ◌+◌, ◌≤◌, ◌<◌}
-use mathlib.Core.Path.{◌≡◌, refl, sym, ap, ◌∙◌, subst}
+use mathlib.Core.Path.{◌≡◌, sym, ap, ◌∙◌, subst}
 use mathlib.Core.List.{List}
-use lib.ListN.{get_or, drop}
+use lib.ListN.{drop}
 use Rattle.word.specs.Records.{records, record_at, records_of}
 use Rattle.word.specs.declared.Record.{Record}
 use Rattle.tape.specs.Instruction.{read}
@@ -14,7 +14,7 @@ use Rattle.tape.specs.declared.Checked.{Checked}
 use Rattle.checker.specs.declared.standing.Standing.{Standing}
 use Rattle.tape.specs.Held.{held}
 use Rattle.checker.specs.Standing.{Functions, Bodies, due_of, scan_of}
-use Rattle.checker.specs.Ready.{Within, Ready, SizedF, SizedB}
+use Rattle.checker.specs.Ready.{Within, SizedF, SizedB}
 use Rattle.checker.proofs.Held.{scan_held, alike_within}
 use Rattle.checker.proofs.Clear.{met}
 use Rattle.checker.proofs.Bounds.{start_within, next_within}

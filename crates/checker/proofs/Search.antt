@@ -1,8 +1,7 @@
 -- The search of the open bodies for a slot, from the innermost out: what the first body shows that shows anything is what is visible. Assumes nothing.
-use Prim.Native.Nat.{ℕ, zero, suc, ◌-◌, ◌<◌, ◌≤◌}
+use Prim.Native.Nat.{ℕ, suc}
 use native.Mathlib.Omega.{arith}
-use mathlib.Core.Path.{◌≡◌, refl, sym, ap, ◌∙◌}
-use mathlib.Core.Bool.{Bool, true, false}
+use mathlib.Core.Path.{◌≡◌, refl}
 use Rattle.word.specs.Slots.{Seen, hidden, fixed, defined}
 use Rattle.checker.specs.Standing.{Bodies, rank, onto, shown_by, scope_at}
 

@@ -1,20 +1,20 @@
 -- What the code stores at a record is what the scan becomes: DEF, FOR, END and RET on the rows. Assumes nothing.
-use Prim.Native.Nat.{ℕ, zero, suc, ◌+◌, ◌-◌, ◌*◌, ◌≤◌, ◌<◌}
+use Prim.Native.Nat.{ℕ, suc, ◌+◌, ◌-◌, ◌*◌, ◌<◌}
 use native.Mathlib.Omega.{arith}
 use native.Mathlib.Numerals.{add-one}
-use mathlib.Core.Path.{◌≡◌, refl, sym, ap, ap₂, ◌∙◌}
-use mathlib.Core.Bool.{Bool, true, false, cond}
-use mathlib.Core.List.{List, [], ◌∷◌, ◌++◌, map}
+use mathlib.Core.Path.{◌≡◌, refl}
+use mathlib.Core.Bool.{cond}
+use mathlib.Core.List.{List, [], ◌∷◌, ◌++◌}
 use lib.ListN.{length, get_or, set, length-set}
-use lib.Seq.{get_or-set_same, get_or-set_other}
+use lib.Seq.{get_or-set_same}
 use lib.Dec.{eqb}
-use Rattle.word.specs.Slots.{upd, fixed, defined, Scope}
-use Rattle.tape.specs.Instruction.{def, for, end, ret}
-use Rattle.tape.specs.Scan.{Known, Open, Scan, nothing, a_function, leaves, states, opens, close_by, closes, in_body, returns, next}
+use Rattle.word.specs.Slots.{upd, defined}
+use Rattle.tape.specs.Instruction.{for, end, ret}
+use Rattle.tape.specs.Scan.{nothing, a_function, leaves, states, opens, close_by, closes, in_body, returns, next}
 use Rattle.checker.specs.declared.standing.Due.{Due}
 use Rattle.checker.specs.declared.standing.Standing.{Standing}
 use Rattle.tape.specs.Held.{hold, hold_known, held}
-use Rattle.checker.specs.Standing.{Functions, Bodies, functions, bodies, insert, due_of, known_of, known_to, scope_at, opens_at, scan_of}
+use Rattle.checker.specs.Standing.{Functions, Bodies, functions, bodies, insert, due_of, known_to, scope_at, opens_at, scan_of}
 use Rattle.checker.specs.Ready.{SizedF, SizedB}
 use Rattle.tape.proofs.Counts.{hold_hold, hold_add_right}
 use Rattle.checker.proofs.Held.{known_more}

@@ -8,9 +8,8 @@ use mathlib.Core.Logic.{⊎_elim}
 use mathlib.Core.Bool.{false, true≢false}
 use mathlib.Core.List.{List, [], ◌∷◌, ◌++◌}
 use borrow.Author.Tests.{le-leb, lt-leb}
-use lib.ListN.{length, get_or, drop}
+use lib.ListN.{get_or, drop}
 use Rattle.word.specs.Records.{records, record_at, records_of}
-use Rattle.word.specs.declared.Record.{Record}
 use Rattle.word.proofs.Walk.{walk_on, walk_end}
 use Rattle.tape.specs.Instruction.{read}
 use Rattle.tape.specs.Steps.{most}

@@ -1,0 +1,30 @@
+-- `checker::slots::searched` meets its contract: each arm makes the definition compute. Assumes nothing.
+use Rattle.checker.specs.Standing.{searched_of}
+use borrow.Author.Tests.{ne_eqb}
+use native.Mathlib.Omega.{arith}
+use Rattle.checker.proofs.slots.searched.Goals as goal
+
+pub returns-in-11 : goal.returns-in-11
+unfolding searched_of
+returns-in-11 c = simp c.in-11.is
+
+pub returns-in-16 : goal.returns-in-16
+unfolding searched_of
+returns-in-16 c = simp c.in-16.is
+
+pub returns-in-17 : goal.returns-in-17
+unfolding searched_of
+returns-in-17 c = simp c.in-17.is
+
+pub returns-in-19 : goal.returns-in-19
+unfolding searched_of
+returns-in-19 c = simp c.in-19.is
+
+pub returns-in-21 : goal.returns-in-21
+unfolding searched_of
+returns-in-21 c = simp c.in-21.is
+
+pub returns-in_default : goal.returns-in_default
+unfolding searched_of
+returns-in_default c =
+    simp (ne_eqb c.args.kind 11 (omega arith), ne_eqb c.args.kind 16 (omega arith), ne_eqb c.args.kind 17 (omega arith), ne_eqb c.args.kind 19 (omega arith), ne_eqb c.args.kind 21 (omega arith))

@@ -6,7 +6,7 @@ use native.Mathlib.Omega.{arith}
 use lib.ListN.{get_or}
 use Rattle.word.specs.declared.Record.{Record}
 use Rattle.script.specs.Tree.{Expr, Stmt, skip, seq, def, set, put, for, if, return, Stmts, done, next, size_e, size_s, size_ss}
-use Rattle.script.specs.Table.{HeadS, SKIP, SEQ, DEF, SET, PUT, FOR, IF, RETURN, read_s, write_s, statement as class}
+use Rattle.script.specs.Table.{HeadS, SKIP, SEQ, DEF, SET, PUT, FOR, IF, RETURN, write_s, statement as class}
 use Rattle.script.specs.Written.{count_s, list_e, list_s, list_ss, depth_s, depth_ss, InE, Inside, Insides}
 use Rattle.script.specs.declared.Env.{Env}
 use Rattle.script.proofs.Leading.{from, statement_lawful}

@@ -16,14 +16,14 @@ use Rattle.word.proofs.Records.{words_length}
 use Rattle.script.specs.Tree.{Func, Program, size_f, size_s}
 use Rattle.script.specs.Parse.{parsed, entered, passed, read_table}
 use Rattle.script.specs.Stage.{first_func}
-use Rattle.script.specs.Written.{list_s, list_funcs, head_of, InFunc, InFuncs, none_left, one_more, Within}
+use Rattle.script.specs.Written.{list_s, list_funcs, head_of, InFunc, InFuncs, none_left, one_more}
 use Rattle.script.specs.declared.Env.{Env}
 use Rattle.script.specs.declared.First.{First}
 use Rattle.script.specs.declared.First.TheVariants.{Clean, Fault}
 use Rattle.script.proofs.Leading.{from}
 use Rattle.script.proofs.Walks.{faulty}
 use Rattle.script.proofs.Sizes.{size_fs, listing_size}
-use Rattle.scoping.specs.Passes.{heading, noted}
+use Rattle.scoping.specs.Passes.{noted}
 use Rattle.scoping.proofs.Found.{finds, lists, begins}
 use Rattle.scoping.proofs.Past.{past_S}
 use Rattle.tape.specs.Instruction.{write, words}
@@ -31,14 +31,14 @@ use Rattle.tape.specs.Tape.{instructions, tape}
 use Rattle.tape.specs.Steps.{most, steps_s, steps_f, steps_of, steps_exposed}
 use Rattle.tape.specs.Held.{hold}
 use Rattle.tape.proofs.Costs.{known_length}
-use Rattle.tape.proofs.Counts.{hold_within, hold_hold, hold_add, hold_leb}
+use Rattle.tape.proofs.Counts.{hold_within, hold_hold, hold_leb}
 use Rattle.tape.proofs.Sizes.{records_s, records_f, records_fs, instructions_records}
 use Rattle.translation.specs.Translate.{layout, STT, depth, FDEFT, translate}
 use Rattle.translation.specs.Compile.{within, unless_over, costs}
 use Rattle.translation.proofs.Figures.{func_steps}
 use Rattle.translation.proofs.Sizes.{func_records, tape_most}
 use Rattle.translation.proofs.Heights.{depth_ifs}
-use Rattle.costing.specs.Counting.{count, statement}
+use Rattle.costing.specs.Counting.{count}
 use Rattle.costing.specs.Totals.{Totals, totals, body_at, keeping, function_at, Outcome, outcome, or_over, functions_from, counted, cost_of}
 use Rattle.costing.specs.declared.count.Count.{Count}
 use Rattle.costing.specs.declared.Cost.TheVariants.{Within as Kept, Over}

@@ -17,7 +17,7 @@ use Rattle.script.proofs.Leading.{from}
 use Rattle.scoping.specs.Passes.{heading, noted, arity_of}
 use Rattle.tape.specs.Steps.{most}
 use Rattle.tape.specs.Held.{hold}
-use Rattle.costing.specs.Counting.{count, moved, plus, times, weight, past, tally_one, tally, head, enter, statement}
+use Rattle.costing.specs.Counting.{moved, plus, times, weight, past, tally_one, tally, head, enter, statement}
 use Rattle.costing.specs.Totals.{Totals, body_at, keeping, function_by, function_at, Outcome, outcome, or_over, functions_from, counted}
 use Rattle.costing.specs.declared.count.Count.{Count}
 use Rattle.costing.specs.declared.Cost.TheVariants.{Within, Over}

@@ -2,18 +2,18 @@
 use mathlib.Core.Path.{◌≡◌, refl, sym, ap, ◌∙◌}
 use mathlib.Core.Bool.{Bool, true, false}
 use mathlib.Core.List.{List, [], ◌∷◌, map}
-use Prim.Native.Nat.{ℕ, zero, suc, ◌+◌, ◌-◌, ◌*◌, ◌^◌, ◌≤◌, ◌<◌}
+use Prim.Native.Nat.{ℕ, suc, ◌+◌, ◌*◌, ◌≤◌}
 use native.Mathlib.Omega.{arith}
 use borrow.Author.Tests.{leb-true, leb-false}
 use lib.Dec.{leb}
-use lib.ListN.{length, get_or, replicate, length-map}
+use lib.ListN.{length, replicate, length-map}
 use lib.Seq.{sets}
 use Rattle.word.specs.Records.{rec, records, records_of}
 use Rattle.word.specs.declared.Record.{Record}
 use Rattle.word.proofs.Memory.{Words}
 use Rattle.word.proofs.Records.{words_length, records_words}
 use Rattle.script.specs.Tree.{Program}
-use Rattle.script.specs.Stage.{or_else, first_func, over_program}
+use Rattle.script.specs.Stage.{or_else, over_program}
 use Rattle.script.specs.Scope.{scope_f}
 use Rattle.script.specs.Types.{type_f}
 use Rattle.script.specs.Stores.{stores as storage}
@@ -26,10 +26,10 @@ use Rattle.script.proofs.Exactly.{written_read}
 use Rattle.scoping.proofs.Found.{finds}
 use Rattle.tape.specs.Instruction.{Code, program, array, write, words}
 use Rattle.tape.specs.Tape.{tape_arrays, instructions, tape}
-use Rattle.tape.specs.Steps.{most, steps_of, steps_exposed}
+use Rattle.tape.specs.Steps.{most, steps_exposed}
 use Rattle.tape.proofs.Sizes.{tape_fs_records}
 use Rattle.translation.specs.Translate.{FDEFT, translate}
-use Rattle.translation.specs.Compile.{within, costs, stages, first_of, written, unless_fault, compile_by, compile}
+use Rattle.translation.specs.Compile.{costs, stages, first_of, written, unless_fault, compile_by, compile}
 use Rattle.emitting.specs.Emitting.{Sheet, place, puts}
 use Rattle.emitting.specs.Walking.{Desk, desk, times}
 use Rattle.costing.specs.Totals.{cost_of}

@@ -1,5 +1,5 @@
 -- The compiler's whole answer: a table's judgement decides, and then its cost. Assumes nothing.
-use mathlib.Core.Path.{◌≡◌, refl, ap, ◌∙◌}
+use mathlib.Core.Path.{◌≡◌, refl}
 use mathlib.Core.List.{List}
 use Prim.Native.Nat.{ℕ}
 use Rattle.script.specs.Tree.{Program}
@@ -11,7 +11,7 @@ use Rattle.script.specs.Stores.{stores}
 use Rattle.stages.specs.Judge.{checked, judged_by, judged}
 use Rattle.script.specs.declared.First.{First}
 use Rattle.script.specs.declared.First.TheVariants.{Clean, Fault}
-use Rattle.translation.specs.Compile.{costs, stages, first_of, Result, unless_fault, compile_by, compile}
+use Rattle.translation.specs.Compile.{costs, stages, first_of, unless_fault, compile_by, compile}
 use Rattle.translation.specs.declared.Compiled.TheVariants.{Refused}
 
 or_clean : (a : First) → or_else a Clean ≡ a

@@ -19,7 +19,7 @@ use Rattle.tape.specs.Held.{hold}
 use Rattle.translation.specs.Translate.{layout, STT, FDEFT}
 use Rattle.emitting.specs.Emitting.{Sheet, puts, lay_s}
 use Rattle.emitting.specs.Walking.{Desk, desk, on}
-use Rattle.compiler.specs.Writing.{Rolls, rolls, heads, body_of, walk_f, walk_fs}
+use Rattle.compiler.specs.Writing.{rolls, heads, body_of, walk_f, walk_fs}
 use Rattle.compiler.proofs.Tables.{walk_f_found}
 use Rattle.compiler.proofs.Walked.{stmt_walked}
 use Rattle.compiler.proofs.Laying.{run, run_S}

@@ -1,13 +1,13 @@
 -- Where a tree's records stand in a table, the walk over them lays its translation, and leaves the reader past it. Assumes nothing.
 use mathlib.Core.Path.{◌≡◌, refl, sym, ap, ◌∙◌}
-use mathlib.Core.List.{List, [], ◌∷◌}
-use Prim.Native.Nat.{ℕ, zero, suc, ◌+◌, ◌-◌, ◌≤◌}
+use mathlib.Core.List.{List, ◌∷◌}
+use Prim.Native.Nat.{ℕ, suc, ◌+◌, ◌-◌, ◌≤◌}
 use native.Mathlib.Omega.{arith}
 use Rattle.word.specs.Value.{Op, add, sub, mul, shl, shr, and, or, eq, ne, gt, lt, ge, le, land, lor}
 use Rattle.word.specs.Code.{code}
 use Rattle.word.specs.declared.Record.{Record}
 use Rattle.script.specs.Tree.{Expr, num, tru, fls, var, get, lnot, bnot, bin, call, Exprs, none, more, Stmt, skip, seq, def, set, put, for, if, return, Stmts, done, next, size_e, size_es, size_s, size_ss}
-use Rattle.script.specs.Table.{HeadE, NUM, TRUE, FALSE, VAR, GET, LNOT, BNOT, BIN, CALL, HeadS, SKIP, SEQ, DEF, SET, PUT, FOR, IF, RETURN, read_e, write_e, read_s, write_s, expression, statement}
+use Rattle.script.specs.Table.{HeadE, NUM, TRUE, FALSE, VAR, GET, LNOT, BNOT, BIN, CALL, HeadS, SKIP, SEQ, DEF, SET, PUT, FOR, IF, RETURN, write_e, write_s, expression, statement}
 use Rattle.script.specs.Written.{count_e, count_s, list_e, list_es, list_s, list_ss, depth_e, depth_es, depth_s, depth_ss, InE, InEs, Inside, Insides}
 use Rattle.script.specs.declared.Env.{Env}
 use Rattle.script.proofs.Leading.{from, expression_lawful, statement_lawful}

@@ -1,6 +1,6 @@
 -- The walk over a whole table that writes its translation: the functions one after another, with what is kept of each; and the answer, by the cost (12, 13) that was
 -- counted before. Assumes nothing: these are definitions.
-use Rattle.std.specs.Prelude.{ℕ, zero, suc, ◌+◌, ◌*◌, min, Bool, true, false, List, [], ◌∷◌, length, get_or, replicate, set as keep, leb}
+use Rattle.std.specs.Prelude.{ℕ, zero, suc, ◌+◌, ◌*◌, min, Bool, true, false, List, length, get_or, replicate, set as keep, leb}
 use Rattle.word.specs.Value.{TRUE, FALSE}
 use Rattle.word.specs.Reader.{read_at}
 use Rattle.word.specs.declared.Record.{Record}

@@ -1,4 +1,4 @@
-/* Ribbandage for C: link target/staticlib/libribbandage.a, which `rt staticlib ribbandage` writes.
+/* Ribbandage for C: link crates/ribbandage/out/libribbandage.a, which `rt lib` in crates/ribbandage writes.
 
    What a caller owes, and nothing checks:
    - each pointer is aligned for its type and reaches as many initialized elements as the count beside it says; with a count of 0 it may be any aligned

@@ -1,19 +1,19 @@
 -- Where the run does not go on, its answer is that of the rules. Over an accepted tape. Assumes nothing.
 use mathlib.Core.Path.{◌≡◌, refl, sym, ap, ◌∙◌, subst}
 use mathlib.Core.Bool.{Bool, true, false, false≢true}
-use mathlib.Core.List.{List, [], ◌∷◌}
-use Prim.Native.Nat.{ℕ, zero, suc, ◌+◌, ◌-◌, ◌*◌, ◌≤◌, ◌<◌, ◌^◌}
+use mathlib.Core.List.{List, ◌∷◌}
+use Prim.Native.Nat.{ℕ, suc, ◌-◌, ◌≤◌, ◌<◌, ◌^◌}
 use native.Mathlib.Omega.{arith}
 use borrow.Author.Tests.{ltb-true, lt-ltb, le-ltb}
 use lib.Dec.{ltb, eqb}
 use lib.ListN.{length, get_or, drop, length-drop}
 use Rattle.word.specs.Slots.{Slots, Scope}
 use Rattle.word.specs.Records.{records, record_at, same}
-use Rattle.tape.specs.Instruction.{Instruction, Code, end, read, write, code_of}
+use Rattle.tape.specs.Instruction.{Code, end, read, write, code_of}
 use Rattle.tape.specs.Scan.{Known, Open}
 use Rattle.tape.specs.Faults.{asks}
-use Rattle.tape.specs.Entries.{Entry, entry_at}
-use Rattle.tape.specs.Rules.{World, Loop, Frame, Machine, at, halted, Turn, free, counts, renews, turn_for, turn_end, turn_loops, turn, is_free, quiet, stands, place_by, place}
+use Rattle.tape.specs.Entries.{entry_at}
+use Rattle.tape.specs.Rules.{World, Loop, Frame, Machine, at, turn_for, turn_end, turn_loops, turn, is_free, quiet, stands, place_by, place}
 use Rattle.tape.proofs.Cases.{by_kind, read_end}
 use Rattle.tape.proofs.Reading.{code_from, code_length}
 use Rattle.tape.proofs.Places.{Passed}
@@ -21,13 +21,13 @@ use Rattle.tape.proofs.Positions.{other_kind}
 use Rattle.tape.proofs.Settling.{stands_here, stands_halted}
 use Rattle.machine.specs.Flat.{Flat, sizes, pick, places_of, goes_on, answer_at, Ending, Ready, Looping, Stored}
 use Rattle.machine.specs.Run.{Result, after, result_of}
-use Rattle.machine.specs.declared.Ran.TheVariants.{Done, Stopped}
+use Rattle.machine.specs.declared.Ran.TheVariants.{Stopped}
 use Rattle.machine.proofs.Relation.{Stands, running, finished}
 use Rattle.machine.proofs.Moving.{Sized, asked_at}
 use Rattle.machine.proofs.KeepsValues.{Running}
 use Rattle.machine.proofs.KeepsEnds.{Innermost, innermost}
 use Rattle.machine.proofs.Keeps.{body_kind, looping, ready}
-use Rattle.machine.proofs.Going.{Along, goes, rests, quiet_is}
+use Rattle.machine.proofs.Going.{Along, rests, quiet_is}
 
 -- a record that counts, and begins no further pass, counts where it stands
 here_by : (b : Bool) (all : ℕ) (c : Code) → place_by all (turn_for b) c ≡ all - length c

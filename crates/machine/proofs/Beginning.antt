@@ -1,29 +1,29 @@
 -- The run begins inside the exposed function: the first flat state stands for the machine that the rules begin with. Assumes nothing.
-use mathlib.Core.Path.{◌≡◌, refl, sym, ap, ◌∙◌, subst}
+use mathlib.Core.Path.{◌≡◌, refl, ap, ◌∙◌, subst}
 use mathlib.Core.Bool.{◌&&◌}
-use mathlib.Core.List.{List, [], ◌∷◌}
-use Prim.Native.Nat.{ℕ, zero, suc, ◌+◌, ◌-◌, ◌≤◌, ◌<◌}
+use mathlib.Core.List.{List, []}
+use Prim.Native.Nat.{ℕ, suc, ◌+◌, ◌-◌, ◌≤◌, ◌<◌}
 use native.Mathlib.Numerals.{add-one}
 use native.Mathlib.Nat.{zero-add}
 use native.Mathlib.Omega.{arith}
 use borrow.Author.Tests.{leb-true}
 use lib.Dec.{leb}
-use lib.ListN.{length, get_or, drop, replicate}
+use lib.ListN.{length, get_or, replicate}
 use Rattle.word.specs.Slots.{fresh}
 use Rattle.word.specs.Records.{records, record_at}
-use Rattle.tape.specs.Instruction.{Code, cfunc, code_of}
+use Rattle.tape.specs.Instruction.{cfunc, code_of}
 use Rattle.tape.specs.Faults.{asks}
-use Rattle.tape.specs.Entries.{Entry, entries_of, exposed, entry_at}
-use Rattle.tape.specs.Rules.{Machine, at, stands}
+use Rattle.tape.specs.Entries.{Entry, entries_of, entry_at}
+use Rattle.tape.specs.Rules.{stands}
 use Rattle.tape.proofs.Cases.{cfunc_fields}
 use Rattle.tape.proofs.Places.{Passed}
-use Rattle.tape.proofs.Steady.{Asks, both}
-use Rattle.tape.proofs.Declared.{Exposed, exposed_there}
+use Rattle.tape.proofs.Steady.{both}
+use Rattle.tape.proofs.Declared.{exposed_there}
 use Rattle.machine.specs.Run.{begin, after}
 use Rattle.machine.specs.Flat.{Flat, flat, sizes, copied, places_of, Entered}
 use Rattle.machine.specs.declared.registers.Registers.{Registers}
 use Rattle.machine.proofs.Relation.{On, bottom, Stands}
-use Rattle.machine.proofs.Moving.{Sized, asked_at}
+use Rattle.machine.proofs.Moving.{asked_at}
 use Rattle.machine.proofs.KeepsValues.{arrive}
 use Rattle.machine.proofs.Tables.{place_there}
 use Rattle.machine.proofs.Handing.{copied_length, copied_at}

@@ -2,11 +2,11 @@
 use mathlib.Core.Path.{◌≡◌, refl}
 use mathlib.Core.Bool.{Bool, true, false, not as negated}
 use mathlib.Core.List.{List}
-use Prim.Native.Nat.{ℕ, suc}
+use Prim.Native.Nat.{ℕ}
 use borrow.Author.Tests.{ltb-true, ltb-false, le-leb, lt-leb}
 use lib.Dec.{ltb, leb}
 use Rattle.word.specs.declared.Record.{Record}
-use Rattle.tape.specs.Instruction.{Instruction, read}
+use Rattle.tape.specs.Instruction.{read}
 use Rattle.tape.proofs.Cases.{by_kind}
 use Rattle.machine.specs.Flat.{free_by}
 

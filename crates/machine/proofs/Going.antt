@@ -1,29 +1,27 @@
 -- The invariant of a run: the flat state stands for a machine from which the steps still allowed lead where the whole limit leads from the start.
 -- Over an accepted tape. Assumes nothing.
-use mathlib.Core.Path.{◌≡◌, refl, sym, ap, ◌∙◌, subst}
+use mathlib.Core.Path.{◌≡◌, refl, sym, ap, ◌∙◌}
 use mathlib.Core.Bool.{Bool, true, false, false≢true}
-use mathlib.Core.List.{List, [], ◌∷◌}
-use Prim.Native.Nat.{ℕ, zero, suc, ◌+◌, ◌-◌, ◌*◌, ◌≤◌, ◌<◌, ◌^◌}
+use mathlib.Core.List.{List}
+use Prim.Native.Nat.{ℕ, suc, ◌+◌, ◌-◌, ◌*◌, ◌≤◌, ◌<◌}
 use native.Mathlib.Nat.{suc-mul}
 use native.Mathlib.Omega.{arith}
 use borrow.Author.Tests.{ltb-true, ltb-false, lt-ltb}
 use lib.Dec.{ltb}
 use lib.ListN.{length, get_or, drop, length-drop}
 use Rattle.word.specs.Records.{records, record_at}
-use Rattle.tape.specs.Instruction.{Instruction, Code, read, code_of}
-use Rattle.tape.specs.Entries.{Entry, entry_at}
-use Rattle.tape.specs.Rules.{World, Loop, Frame, Machine, at, halted, step, is_free, turn, quiet, left, stands}
+use Rattle.tape.specs.Instruction.{read, code_of}
+use Rattle.tape.specs.Entries.{entry_at}
+use Rattle.tape.specs.Rules.{Machine, step, quiet, left, stands}
 use Rattle.tape.proofs.Reading.{code_from, code_length}
 use Rattle.tape.proofs.Places.{Passed}
-use Rattle.tape.proofs.Settling.{counter, quiet_forward, stands_quiet, stands_counting, stands_here, stands_halted}
+use Rattle.tape.proofs.Settling.{counter, quiet_forward, stands_quiet, stands_counting}
 use Rattle.tape.proofs.Running.{Live, at_record, at_end, step_quiet, step_counted}
 use Rattle.machine.specs.Flat.{Flat, sizes, pick, flat_by, free_by, goes_on, places_of}
 use Rattle.machine.specs.declared.registers.Registers.{Registers}
 use Rattle.machine.specs.Run.{after}
 use Rattle.machine.proofs.Relation.{Stands, running, finished}
 use Rattle.machine.proofs.Moving.{Sized}
-use Rattle.machine.proofs.KeepsValues.{Running}
-use Rattle.machine.proofs.KeepsCalls.{Listed}
 use Rattle.machine.proofs.Keeps.{keeps, free_is}
 use Rattle.machine.proofs.Lasting.{lasts, sized_after}
 

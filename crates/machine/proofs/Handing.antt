@@ -6,7 +6,7 @@ use Prim.Native.Nat.{ℕ, zero, suc, ◌+◌, ◌-◌, ◌≤◌, ◌<◌}
 use native.Mathlib.Nat.{eq-or-lt_of_le, le_of_suc-le-suc}
 use native.Mathlib.Omega.{arith}
 use lib.ListN.{length, get_or, set as put_at, drop, length-set}
-use lib.Seq.{get_or-set_same, get_or-set_other}
+use lib.Seq.{get_or-set_same}
 use Rattle.tape.specs.Rules.{Machine, grab}
 use Rattle.machine.specs.Flat.{copied}
 use Rattle.machine.proofs.Piled.{Piled, bare, pile, piled_height}

@@ -1,38 +1,34 @@
 -- Every record keeps the relation of flat state and machine; where it holds there is room for the record at hand; and the flat state tells whether it
 -- counts. Assumes nothing.
-use mathlib.Core.Path.{◌≡◌, refl, sym, ap, ◌∙◌, subst}
+use mathlib.Core.Path.{◌≡◌, refl, sym, ap, ◌∙◌}
 use mathlib.Core.Bool.{Bool, true, false, not as negated, ◌&&◌}
-use mathlib.Core.List.{List, [], ◌∷◌}
-use Prim.Native.Nat.{ℕ, zero, suc, ◌+◌, ◌-◌, ◌*◌, ◌^◌, ◌≤◌, ◌<◌}
-use native.Mathlib.Numerals.{add-one}
+use mathlib.Core.List.{List}
+use Prim.Native.Nat.{ℕ, zero, suc, ◌+◌, ◌^◌, ◌≤◌, ◌<◌}
 use native.Mathlib.Omega.{arith}
 use borrow.Author.Tests.{leb-true, ltb-true}
 use lib.Dec.{leb, ltb}
-use lib.ListN.{length, get_or, drop, length-set, length-drop}
+use lib.ListN.{length, get_or}
 use Rattle.word.specs.Slots.{Slots, Scope}
 use Rattle.word.specs.Records.{records, record_at, same}
-use Rattle.tape.specs.Instruction.{Instruction, Code, program, array, cfunc, lit, var, get, not, bin, call, def, set, put, for, end, ret, other, read, write, code_of}
-use Rattle.tape.specs.Scan.{Due, a_program, a_body, Known, Open, Scan, known_at}
+use Rattle.tape.specs.Instruction.{Code, cfunc, call, end, read, write, code_of}
+use Rattle.tape.specs.Scan.{Due, a_program, a_body, Known, Open, known_at}
 use Rattle.tape.specs.Faults.{due, asks}
 use Rattle.tape.specs.Entries.{Entry, entry_at}
-use Rattle.tape.specs.Rules.{World, Loop, Frame, Machine, at, halted, exec, step, turn_for, turn_end, turn_loops, turn, is_free, quiet, left}
+use Rattle.tape.specs.Rules.{World, Loop, Frame, Machine, step, turn_for, turn_end, turn_loops, turn, is_free}
 use Rattle.tape.proofs.Cases.{by_kind, cfunc_fields, for_fields}
-use Rattle.tape.proofs.Reading.{code_from, code_length}
+use Rattle.tape.proofs.Reading.{code_from}
 use Rattle.tape.proofs.Places.{scan_at, Passed}
-use Rattle.tape.proofs.Entered.{Stands-at, Placed}
 use Rattle.tape.proofs.Positions.{placed_at, other_kind}
 use Rattle.tape.proofs.Declared.{arrays_here}
-use Rattle.tape.proofs.Steady.{Asks, Fine, both}
-use Rattle.machine.specs.Flat.{Flat, flat, free, count, frame, sizes, pick, copied, pass_left, flat_by, free_by, Room, Callable, Looping, Stored, Ready}
-use Rattle.machine.specs.declared.registers.Registers.{Registers}
+use Rattle.tape.proofs.Steady.{Asks, both}
+use Rattle.machine.specs.Flat.{Flat, sizes, pass_left, flat_by, free_by, Room, Callable, Looping, Stored, Ready}
 use Rattle.machine.proofs.Piled.{piled_height}
-use Rattle.machine.proofs.Relation.{On, Under, Stands, running, finished, looped_height}
+use Rattle.machine.proofs.Relation.{Stands, running, finished, looped_height}
 use Rattle.machine.proofs.Moving.{Sized, asked_at, fine}
-use Rattle.machine.proofs.KeepsValues.{Running, Here, After, room, exactly, slot_room, keeps_lit, keeps_var, keeps_get, keeps_not, keeps_bin, keeps_def, keeps_set, keeps_put}
+use Rattle.machine.proofs.KeepsValues.{Running, After, room, exactly, slot_room, keeps_lit, keeps_var, keeps_get, keeps_not, keeps_bin, keeps_def, keeps_set, keeps_put}
 use Rattle.machine.proofs.KeepsLoops.{keeps_for}
 use Rattle.machine.proofs.KeepsEnds.{Innermost, innermost, left_is, keeps_end}
 use Rattle.machine.proofs.Tables.{place_there}
-use Rattle.machine.proofs.Handing.{copied_length}
 use Rattle.machine.proofs.KeepsCalls.{Listed, keeps_call, keeps_ret}
 
 -- whether a pass begins, as the rules say it

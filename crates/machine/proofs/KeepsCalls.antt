@@ -1,34 +1,34 @@
 -- CALL and RET keep the relation of flat state and machine. Assumes nothing.
 use mathlib.Core.Path.{◌≡◌, refl, sym, ap, ◌∙◌, subst}
-use mathlib.Core.Bool.{Bool, true, false, ◌&&◌, false≢true}
+use mathlib.Core.Bool.{◌&&◌}
 use mathlib.Core.List.{List, [], ◌∷◌}
-use Prim.Native.Nat.{ℕ, zero, suc, ◌+◌, ◌-◌, ◌*◌, ◌≤◌, ◌<◌}
+use Prim.Native.Nat.{ℕ, suc, ◌+◌, ◌-◌, ◌≤◌, ◌<◌}
 use native.Mathlib.Numerals.{add-one}
 use native.Mathlib.Omega.{arith}
-use borrow.Author.Tests.{leb-true, eqb-true, ltb-true, eq-eqb, ne_eqb}
-use lib.Dec.{leb, ltb, eqb}
+use borrow.Author.Tests.{leb-true, eqb-true, ltb-true, ne_eqb}
+use lib.Dec.{leb, eqb}
 use lib.ListN.{length, get_or, set as put_at, drop, length-drop}
 use lib.Seq.{get_or-set_same}
-use Rattle.word.specs.Slots.{Slots, Seen, Scope, fresh, parameter, begin}
+use Rattle.word.specs.Slots.{Slots, fresh}
 use Rattle.word.specs.Records.{records, record_at}
 use Rattle.tape.specs.Instruction.{Instruction, Code, cfunc, call, ret, read, code_of}
-use Rattle.tape.specs.Scan.{Due, a_body, Known, Open, Body, Scan, known_at, opening, leaves, enters, in_body, next}
-use Rattle.tape.specs.Faults.{readable, asks, takes, just}
+use Rattle.tape.specs.Scan.{Scan, known_at, opening, leaves, enters, in_body, next}
+use Rattle.tape.specs.Faults.{asks}
 use Rattle.tape.specs.Entries.{Entry, entry_at}
-use Rattle.tape.specs.Rules.{World, Loop, Frame, Machine, at, halted, tick, grab, back, exec}
+use Rattle.tape.specs.Rules.{World, Loop, Frame, at, halted, tick, grab, back, exec}
 use Rattle.tape.proofs.Cases.{cfunc_fields}
 use Rattle.tape.proofs.Places.{scan_at, Passed}
-use Rattle.tape.proofs.Entered.{Stands-at, Placed}
+use Rattle.tape.proofs.Entered.{Stands-at}
 use Rattle.tape.proofs.Positions.{placed_at, entry_there}
-use Rattle.tape.proofs.Steady.{Asks, Fine, both}
-use Rattle.machine.specs.Flat.{Flat, flat, count, frame, sizes, pick, copied, places_of, flat_by}
-use Rattle.machine.proofs.Piled.{Piled, bare, pile, piled_height, piled_on}
-use Rattle.machine.proofs.Relation.{Inside, Looped, outside, On, Under, bottom, above, Stands, running, finished, Kept, looped_height, looped_same, piled_same}
-use Rattle.machine.proofs.Moving.{below_put, Sized, asked_at, scan_next, next_record, under_same, on_same, fine}
-use Rattle.machine.proofs.KeepsValues.{Running, arrive, one_more, inside_is, Here, After, room, exactly, slot_room}
+use Rattle.tape.proofs.Steady.{both}
+use Rattle.machine.specs.Flat.{Flat, flat, count, frame, pick, copied, places_of, flat_by}
+use Rattle.machine.proofs.Piled.{Piled, piled_height, piled_on}
+use Rattle.machine.proofs.Relation.{Looped, On, Under, bottom, above, Stands, finished, Kept, looped_height}
+use Rattle.machine.proofs.Moving.{below_put, Sized, asked_at, scan_next, next_record, under_same, fine}
+use Rattle.machine.proofs.KeepsValues.{arrive, one_more, Here, After, room, exactly}
 use Rattle.machine.proofs.Opening.{entering}
 use Rattle.machine.proofs.Tables.{place_there}
-use Rattle.machine.proofs.Handing.{handed, grab_handed, handed_at, piled_drop, copied_below, copied_length, copied_at}
+use Rattle.machine.proofs.Handing.{handed, grab_handed, handed_at, piled_drop, copied_below, copied_at}
 
 module _ (t : List ℕ) (m : ℕ) (a : Passed t m) (funcs : List ℕ) (s : Flat) (b : Sized s) where
   abbrev Δ : ℕ → Entry

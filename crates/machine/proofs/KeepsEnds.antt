@@ -2,34 +2,27 @@
 use mathlib.Core.Path.{◌≡◌, refl, sym, ap, ◌∙◌, subst}
 use mathlib.Core.Bool.{Bool, true, false}
 use mathlib.Core.List.{List, [], ◌∷◌}
-use Prim.Native.Nat.{ℕ, zero, suc, ◌+◌, ◌-◌, ◌*◌, ◌≤◌, ◌<◌}
+use Prim.Native.Nat.{ℕ, suc, ◌+◌, ◌-◌, ◌≤◌, ◌<◌}
 use native.Mathlib.Numerals.{add-one}
 use native.Mathlib.Omega.{arith}
-use native.Mathlib.Decide.{ℕ_discrete}
-use borrow.Author.Tests.{leb-true, ltb-true}
+use borrow.Author.Tests.{ltb-true}
 use lib.Dec.{leb, ltb}
 use lib.ListN.{length, get_or, set as put_at, drop}
 use lib.Seq.{get_or-set_same}
-use Rattle.word.specs.Slots.{Slots, upd, Seen, fixed, Scope}
-use Rattle.word.specs.Records.{records, record_at}
-use Rattle.word.proofs.Memory.{upd_same, upd_other}
+use Rattle.word.specs.Slots.{Slots, upd, fixed, Scope}
+use Rattle.word.specs.Records.{record_at}
 use Rattle.tape.specs.Instruction.{Instruction, Code, for, end, read, code_of}
-use Rattle.tape.specs.Scan.{Due, a_body, Known, Open, Body, Scan, opens, close_by, closes, in_body, next}
-use Rattle.tape.specs.Faults.{more, readable, asks}
+use Rattle.tape.specs.Scan.{Known, Open, Scan, opens, close_by, closes, in_body, next}
+use Rattle.tape.specs.Faults.{readable, asks}
 use Rattle.tape.specs.Entries.{Entry}
-use Rattle.tape.specs.Rules.{World, Loop, Frame, Machine, at, tick, past, pass, again, ending, exec}
+use Rattle.tape.specs.Rules.{World, Loop, Frame, at, tick, pass, again, ending, exec}
 use Rattle.tape.proofs.Cases.{for_fields}
 use Rattle.tape.proofs.Places.{scan_at, Passed}
-use Rattle.tape.proofs.Steady.{Asks, Fine, both}
-use Rattle.tape.proofs.Declared.{goes_on}
-use Rattle.tape.proofs.Skipping.{Past, past_loop}
-use Rattle.machine.specs.Flat.{Flat, flat, free, count, sizes, pick, pass_left, past_at, flat_by}
-use Rattle.machine.specs.declared.registers.Registers.{Registers}
-use Rattle.machine.proofs.Passing.{past_is}
-use Rattle.machine.proofs.Piled.{Piled, bare, piled_height}
-use Rattle.machine.proofs.Relation.{Inside, inside_same, inside_then, Opened, Looped, outside, looped, On, Under, Stands, running, Kept, looped_height, looped_same}
+use Rattle.tape.proofs.Steady.{both}
+use Rattle.machine.specs.Flat.{Flat, flat, free, count, pick, pass_left, flat_by}
+use Rattle.machine.proofs.Relation.{Inside, inside_same, inside_then, Opened, Looped, outside, looped, Stands, looped_height, looped_same}
 use Rattle.machine.proofs.Moving.{below_put, Sized, asked_at, scan_next, next_record, under_same, fine}
-use Rattle.machine.proofs.KeepsValues.{Running, arrive, one_more, inside_is, Here, After, wider, exactly, slot_agree, slot_room}
+use Rattle.machine.proofs.KeepsValues.{arrive, one_more, Here, After, wider, exactly, slot_agree, slot_room}
 
 -- the innermost open loop
 pub record Innermost (t fors passes : List ℕ) (known : List Known) (slots low d : ℕ) (D : Scope) (os : List Open) (L : List Loop) : Type 0 where

@@ -2,34 +2,30 @@
 use mathlib.Core.Path.{◌≡◌, refl, sym, ap, ◌∙◌, subst}
 use mathlib.Core.Bool.{Bool, true, false}
 use mathlib.Core.List.{List, [], ◌∷◌}
-use Prim.Native.Nat.{ℕ, zero, suc, ◌+◌, ◌-◌, ◌*◌, ◌≤◌, ◌<◌}
+use Prim.Native.Nat.{ℕ, suc, ◌+◌, ◌-◌, ◌<◌}
 use native.Mathlib.Numerals.{add-one}
 use native.Mathlib.Omega.{arith}
-use native.Mathlib.Decide.{ℕ_discrete}
-use borrow.Author.Tests.{leb-true, ltb-true}
+use borrow.Author.Tests.{ltb-true}
 use lib.Dec.{leb, ltb}
-use lib.ListN.{length, get_or, set as put_at, drop}
+use lib.ListN.{length, set as put_at, drop}
 use lib.Seq.{get_or-set_same}
-use Rattle.word.specs.Slots.{Slots, upd, Seen, fixed, Scope}
-use Rattle.word.specs.Records.{records, record_at}
-use Rattle.word.proofs.Memory.{upd_same, upd_other}
-use Rattle.tape.specs.Instruction.{Instruction, Code, for, end, read, code_of}
-use Rattle.tape.specs.Scan.{Due, a_body, Known, Open, Body, Scan, opens, close_by, closes, in_body, next}
+use Rattle.word.specs.Slots.{Slots, upd, fixed}
+use Rattle.word.specs.Records.{record_at}
+use Rattle.word.proofs.Memory.{upd_other}
+use Rattle.tape.specs.Instruction.{Instruction, Code, for, read, code_of}
+use Rattle.tape.specs.Scan.{Scan, opens, in_body, next}
 use Rattle.tape.specs.Faults.{more, readable, asks}
 use Rattle.tape.specs.Entries.{Entry}
-use Rattle.tape.specs.Rules.{World, Loop, Frame, Machine, at, tick, past, pass, again, ending, exec}
-use Rattle.tape.proofs.Cases.{for_fields}
+use Rattle.tape.specs.Rules.{World, Loop, Frame, at, tick, past, pass, exec}
 use Rattle.tape.proofs.Places.{scan_at, Passed}
-use Rattle.tape.proofs.Steady.{Asks, Fine, both}
+use Rattle.tape.proofs.Steady.{both}
 use Rattle.tape.proofs.Declared.{goes_on}
-use Rattle.tape.proofs.Skipping.{Past, past_loop}
-use Rattle.machine.specs.Flat.{Flat, flat, free, count, sizes, pick, pass_left, past_at, flat_by}
-use Rattle.machine.specs.declared.registers.Registers.{Registers}
+use Rattle.tape.proofs.Skipping.{past_loop}
+use Rattle.machine.specs.Flat.{Flat, flat, free, count, pick, past_at, flat_by}
 use Rattle.machine.proofs.Passing.{past_is}
-use Rattle.machine.proofs.Piled.{Piled, bare, piled_height}
-use Rattle.machine.proofs.Relation.{Inside, inside_same, inside_then, Opened, Looped, outside, looped, On, Under, Stands, running, Kept, looped_height, looped_same}
-use Rattle.machine.proofs.Moving.{below_put, Sized, asked_at, scan_next, next_record, under_same, fine}
-use Rattle.machine.proofs.KeepsValues.{Running, arrive, one_more, inside_is, Here, After, wider, exactly, slot_agree, slot_room}
+use Rattle.machine.proofs.Relation.{inside_same, Opened, looped, Stands, looped_height, looped_same}
+use Rattle.machine.proofs.Moving.{below_put, Sized, asked_at, scan_next, next_record, under_same}
+use Rattle.machine.proofs.KeepsValues.{arrive, one_more, Here, After, exactly, slot_agree, slot_room}
 
 module _ (t : List ℕ) (m : ℕ) (a : Passed t m) (funcs : List ℕ) (Δ : ℕ → Entry) (s : Flat) (b : Sized s) where
   abbrev Says : Instruction → Type 0

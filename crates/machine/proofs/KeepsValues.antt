@@ -1,29 +1,27 @@
 -- LIT, VAR, GET, NOT, BIN, DEF, SET and PUT keep the relation of flat state and machine. Assumes nothing.
 use mathlib.Core.Path.{◌≡◌, refl, sym, ap, ◌∙◌, subst}
-use mathlib.Core.Bool.{Bool, true, false, ◌&&◌}
+use mathlib.Core.Bool.{true}
 use mathlib.Core.List.{List, [], ◌∷◌}
 use mathlib.Core.Logic.{◌≢◌}
-use Prim.Native.Nat.{ℕ, zero, suc, ◌+◌, ◌-◌, ◌*◌, ◌≤◌, ◌<◌}
+use Prim.Native.Nat.{ℕ, suc, ◌+◌, ◌-◌, ◌≤◌, ◌<◌}
 use native.Mathlib.Numerals.{add-one}
 use native.Mathlib.Omega.{arith}
 use native.Mathlib.Decide.{ℕ_discrete}
 use borrow.Author.Tests.{leb-true, eqb-true, ltb-true}
-use lib.Dec.{leb, eqb}
+use lib.Dec.{leb}
 use lib.ListN.{length, get_or, set as put_at, drop}
 use lib.Seq.{get_or-set_same, get_or-set_other}
-use Rattle.word.specs.Value.{op, flip}
-use Rattle.word.specs.Code.{op_of}
 use Rattle.word.specs.Slots.{Slots, upd, Seen, defined, Scope}
-use Rattle.word.specs.Records.{records, record_at}
+use Rattle.word.specs.Records.{record_at}
 use Rattle.word.specs.Bytes.{fetch, store}
 use Rattle.word.proofs.Memory.{upd_same, upd_other}
 use Rattle.tape.specs.Instruction.{Instruction, lit, var, get, not, bin, def, set, put, read, code_of}
-use Rattle.tape.specs.Scan.{Due, a_body, Body, Scan, leaves, states, in_body, next}
-use Rattle.tape.specs.Faults.{readable, settable, asks, takes, just}
+use Rattle.tape.specs.Scan.{Scan, leaves, states, in_body, next}
+use Rattle.tape.specs.Faults.{readable, asks, takes, just}
 use Rattle.tape.specs.Entries.{Entry}
-use Rattle.tape.specs.Rules.{World, Loop, Frame, Machine, at, tick, stored, one, two, exec}
+use Rattle.tape.specs.Rules.{World, Loop, Frame, at, tick, stored, one, two, exec}
 use Rattle.tape.proofs.Places.{scan_at, Passed}
-use Rattle.tape.proofs.Steady.{Asks, Fine, both}
+use Rattle.tape.proofs.Steady.{both}
 use Rattle.machine.specs.Flat.{Flat, flat, free, count, sizes, flat_by}
 use Rattle.machine.specs.declared.registers.Registers.{Registers}
 use Rattle.machine.proofs.Piled.{Piled, bare, piled_height, piled_on, topped, twice, piled_top, piled_two}
@@ -76,12 +74,12 @@ module _ (t : List ℕ) (m : ℕ) (a : Passed t m) where
       → z.fors ≡ s.fors → z.passes ≡ s.passes → z.slots ≡ s.slots → Piled z.operands floor n₁ (v ∷ rest)
       → On t z (suc i) 0 n₁ floor deep low base top calls (v ∷ rest) τ L
   unfolding in_body leaves
-  leave {i} {base} {τ} x k c n₁ v rest e q o l f p d pile =
+  leave {i} {base} {τ} x k c n₁ v rest e q o l f p d piled =
       let r = scan_next t m a i x e ∙ q in
       let h = o.height in
       let scope = ap (λ (z : Scan). z.body.scope) r in
       on_move t m a n₁ (v ∷ rest) τ o (ap (λ (z : Scan). z.due) r ∙ o.in_body_lem) (ap (λ (z : Scan). z.known) r) (ap (λ (z : Scan). z.slots) r)
-      (ap (λ (z : Scan). z.body.loops) r) (inside_is scope) f p pile (omega (arith, ap (λ (z : Scan). z.body.operands) r))
+      (ap (λ (z : Scan). z.body.loops) r) (inside_is scope) f p piled (omega (arith, ap (λ (z : Scan). z.body.operands) r))
       (λ y w. ap (λ (u : List ℕ). get_or u (base + y) 0) d ∙ o.agree y (rw scope at w))
 
   module _ (funcs : List ℕ) (Δ : ℕ → Entry) (s : Flat) (b : Sized s) where
@@ -139,8 +137,8 @@ module _ (t : List ℕ) (m : ℕ) (a : Passed t m) where
           → s.memory ≡ w₁.bytes → steps₁ ≡ w₁.steps
           → Stands t (flat (moved i n₁ steps₁) s.fors s.passes s.backs s.bases (put_at s.operands j v) s.slots s.memory)
           (at (drop (suc s.regs.at) (code_of t)) (v ∷ rest) τ L F w₁)
-      left_at x k c j i n₁ v rest steps₁ w₁ e q p l h pile y z =
-          arrive r.floor r.low p (leave x k c n₁ v rest e q r.on h refl refl refl pile)
+      left_at x k c j i n₁ v rest steps₁ w₁ e q p l h piled y z =
+          arrive r.floor r.low p (leave x k c n₁ v rest e q r.on h refl refl refl piled)
           (under_same t m a (kept_operands s _ _ r.floor r.low _ _ (λ n d. below_put s.operands j v n (omega arith))) r.under) y z
 
     pub keeps_lit : (values : List ℕ) {τ : Slots} {L : List Loop} {F : List Frame} {w : World} → Here values τ L F w → (v : ℕ) → Says (lit v) → After (lit v) values τ L F w

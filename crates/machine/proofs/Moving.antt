@@ -1,24 +1,24 @@
 -- The relation of flat state and machine, moved on: callers stay as they are, and the present function's part from one record to the next. Over an
 -- accepted tape. Assumes nothing.
-use mathlib.Core.Path.{◌≡◌, refl, sym, ap, ◌∙◌, subst}
-use mathlib.Core.Bool.{Bool, true, false}
-use mathlib.Core.List.{List, [], ◌∷◌}
-use Prim.Native.Nat.{ℕ, zero, suc, ◌+◌, ◌-◌, ◌*◌, ◌≤◌, ◌<◌}
+use mathlib.Core.Path.{◌≡◌, sym, ap, ◌∙◌, subst}
+use mathlib.Core.Bool.{true}
+use mathlib.Core.List.{List}
+use Prim.Native.Nat.{ℕ, suc, ◌+◌, ◌<◌}
 use native.Mathlib.Omega.{arith}
-use lib.ListN.{length, get_or, set as put_at, drop}
+use lib.ListN.{length, get_or, set as put_at}
 use lib.Seq.{get_or-set_other}
-use Rattle.word.specs.Slots.{Slots, upd, Scope}
+use Rattle.word.specs.Slots.{Slots}
 use Rattle.word.specs.Records.{records, record_at}
-use Rattle.tape.specs.Instruction.{Instruction, read, code_of}
-use Rattle.tape.specs.Scan.{Due, a_body, Known, Open, Scan, next}
+use Rattle.tape.specs.Instruction.{Instruction, read}
+use Rattle.tape.specs.Scan.{a_body, next}
 use Rattle.tape.specs.Faults.{more, readable}
-use Rattle.tape.specs.Rules.{World, Loop, Frame, Machine, at, halted}
-use Rattle.tape.proofs.Places.{scan_at, Clean, Passed}
+use Rattle.tape.specs.Rules.{Loop, Frame}
+use Rattle.tape.proofs.Places.{scan_at, Passed}
 use Rattle.tape.proofs.Steady.{Asks, Fine, fine_at}
 use Rattle.tape.proofs.Declared.{goes_on}
 use Rattle.machine.specs.Flat.{Flat}
 use Rattle.machine.proofs.Piled.{Piled, piled_height}
-use Rattle.machine.proofs.Relation.{Inside, Looped, On, Under, bottom, above, Stands, running, Kept, kept_less, piled_same, looped_height, looped_same, looped_wider}
+use Rattle.machine.proofs.Relation.{Inside, On, Under, bottom, above, Kept, kept_less, piled_same, looped_height, looped_same, looped_wider}
 
 -- a list with something put at j, read below j
 pub below_put : (l : List ℕ) (j v i : ℕ) → i < j → get_or (put_at l j v) i 0 ≡ get_or l i 0
@@ -90,11 +90,11 @@ module _ (t : List ℕ) (m : ℕ) (a : Passed t m) where
       → z.fors ≡ s.fors → z.passes ≡ s.passes → Piled z.operands floor n₁ values₁ → length values₁ + 0 ≡ (scan_at t (suc i)).body.operands
       → ((x : ℕ) → readable ((scan_at t (suc i)).body.scope x) ≡ true → get_or z.slots (base + x) 0 ≡ τ₁ x)
       → On t z (suc i) 0 n₁ floor deep low base top calls values₁ τ₁ L
-  on_move {i} {base} n₁ values₁ τ₁ o d k v l w f p pile height agree =
+  on_move {i} {base} n₁ values₁ τ₁ o d k v l w f p piled height agree =
       record {
         on_tape = next_record i o.on_tape d;
         in_body_lem = d;
-        piled = pile;
+        piled = piled;
         height = height;
         loops = rw (f, p, k, v, l) (looped_wider w o.loops);
         agree = agree;

@@ -1,21 +1,17 @@
 -- A function just entered: its arguments lie in its first slots, it has no operands and no loops yet. Over an accepted tape. Assumes nothing.
-use mathlib.Core.Path.{◌≡◌, refl, sym, ap, ◌∙◌}
+use mathlib.Core.Path.{◌≡◌, refl, sym, ap}
 use mathlib.Core.Bool.{Bool, true, false, false≢true}
-use mathlib.Core.List.{List, [], ◌∷◌}
-use Prim.Native.Nat.{ℕ, zero, suc, ◌+◌, ◌-◌, ◌*◌, ◌≤◌, ◌<◌}
-use native.Mathlib.Numerals.{add-one}
+use mathlib.Core.List.{List, []}
+use Prim.Native.Nat.{ℕ, suc, ◌+◌, ◌*◌, ◌≤◌, ◌<◌}
 use native.Mathlib.Omega.{arith}
 use borrow.Author.Tests.{ltb-true}
 use lib.Dec.{ltb}
-use lib.ListN.{length, get_or, drop, replicate}
+use lib.ListN.{length, get_or}
 use Rattle.word.specs.Slots.{fresh, parameter, begin}
-use Rattle.word.specs.Records.{records, record_at}
-use Rattle.tape.specs.Instruction.{Code, cfunc, code_of}
-use Rattle.tape.specs.Scan.{Due, a_body, Body, Scan, opening, enters, next}
+use Rattle.tape.specs.Instruction.{cfunc}
+use Rattle.tape.specs.Scan.{Scan, opening, enters, next}
 use Rattle.tape.specs.Faults.{readable}
-use Rattle.tape.specs.Entries.{Entry, entries_of, exposed}
-use Rattle.tape.specs.Rules.{Machine, at}
-use Rattle.tape.proofs.Places.{scan_at, Passed}
+use Rattle.tape.proofs.Places.{Passed}
 use Rattle.tape.proofs.Entered.{Stands-at}
 use Rattle.machine.specs.Flat.{Flat}
 use Rattle.machine.proofs.Piled.{bare}

@@ -1,13 +1,13 @@
 -- Past a loop, one record at a time. Assumes nothing.
 use mathlib.Core.Path.{◌≡◌, refl, sym, ap, ◌∙◌}
-use mathlib.Core.List.{List, [], ◌∷◌}
-use Prim.Native.Nat.{ℕ, zero, suc, ◌+◌, ◌-◌, ◌<◌, ◌≤◌}
+use mathlib.Core.List.{List, ◌∷◌}
+use Prim.Native.Nat.{ℕ, suc, ◌+◌, ◌-◌, ◌<◌, ◌≤◌}
 use native.Mathlib.Numerals.{add-one}
 use native.Mathlib.Omega.{arith}
 use lib.ListN.{length, drop, length-drop, drop_of_length-le}
 use Rattle.word.specs.Records.{records, record_at}
 use Rattle.word.specs.declared.Record.{Record}
-use Rattle.tape.specs.Instruction.{Instruction, Code, for, end, read, code_of}
+use Rattle.tape.specs.Instruction.{Code, end, read, code_of}
 use Rattle.tape.specs.Rules.{past}
 use Rattle.tape.proofs.Cases.{by_kind}
 use Rattle.tape.proofs.Reading.{code_from, code_length}

@@ -1,13 +1,11 @@
 -- Operands in a flat list: a list of values, the topmost first, lies in it from `floor` up to n. Assumes nothing.
-use mathlib.Core.Path.{◌≡◌, refl, sym, ap, ◌∙◌, subst}
+use mathlib.Core.Path.{◌≡◌, sym, ap, ◌∙◌, subst}
 use mathlib.Core.List.{List, [], ◌∷◌}
-use mathlib.Core.Logic.{◌≢◌}
-use Prim.Native.Nat.{ℕ, zero, suc, ◌+◌, ◌-◌, ◌≤◌, ◌<◌}
+use Prim.Native.Nat.{ℕ, suc, ◌+◌, ◌-◌, ◌≤◌, ◌<◌}
 use native.Mathlib.Nat.{add-zero}
 use native.Mathlib.Omega.{arith}
 use lib.ListN.{length, get_or, set as put_at}
 use lib.Seq.{get_or-set_same, get_or-set_other}
-use Rattle.machine.specs.Flat.{copied}
 
 pub data Piled (l : List ℕ) (floor : ℕ) : ℕ → List ℕ → Type 0 where
   bare : Piled l floor floor []

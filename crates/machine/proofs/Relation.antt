@@ -1,20 +1,20 @@
 -- How the flat state stands for a machine of the core rules, on an accepted tape: the record at hand tells the code; operands, loops and slots of the
 -- present function lie above those of its callers; and the scan of the check tells how many there are. Assumes nothing.
-use mathlib.Core.Path.{◌≡◌, refl, sym, ap, ◌∙◌, subst}
+use mathlib.Core.Path.{◌≡◌, ◌∙◌}
 use mathlib.Core.Bool.{true}
 use mathlib.Core.List.{List, [], ◌∷◌}
-use Prim.Native.Nat.{ℕ, zero, suc, ◌+◌, ◌-◌, ◌*◌, ◌≤◌, ◌<◌}
+use Prim.Native.Nat.{ℕ, suc, ◌+◌, ◌-◌, ◌*◌, ◌≤◌, ◌<◌}
 use native.Mathlib.Omega.{arith}
 use lib.ListN.{length, get_or, drop}
 use Rattle.word.specs.Slots.{Slots, upd, fixed, Scope}
 use Rattle.word.specs.Records.{records, record_at}
-use Rattle.tape.specs.Instruction.{Instruction, Code, for, read, code_of}
-use Rattle.tape.specs.Scan.{Due, a_body, Known, Open, Scan}
+use Rattle.tape.specs.Instruction.{for, read, code_of}
+use Rattle.tape.specs.Scan.{a_body, Known, Open}
 use Rattle.tape.specs.Faults.{readable}
 use Rattle.tape.specs.Rules.{World, Loop, Frame, Machine, at, halted}
 use Rattle.tape.proofs.Places.{scan_at}
 use Rattle.machine.specs.Flat.{Flat}
-use Rattle.machine.proofs.Piled.{Piled, bare, pile, piled_height}
+use Rattle.machine.proofs.Piled.{Piled, bare, pile}
 
 -- what is visible in D is visible in E
 pub record Inside (D E : Scope) : Type 0 where

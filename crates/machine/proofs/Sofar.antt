@@ -1,16 +1,14 @@
 -- The invariant of `execute`, over what it requires. Assumes nothing.
-use mathlib.Core.Path.{◌≡◌, refl, sym, ap, ◌∙◌, subst}
-use mathlib.Core.Bool.{Bool, true, false}
+use mathlib.Core.Path.{◌≡◌, ◌∙◌}
+use mathlib.Core.Bool.{true, false}
 use mathlib.Core.List.{List}
-use Prim.Native.Nat.{ℕ, ◌+◌, ◌-◌, ◌≤◌, ◌<◌, ◌^◌}
-use lib.ListN.{length, get_or, replicate}
+use Prim.Native.Nat.{ℕ, ◌<◌, ◌^◌}
+use lib.ListN.{length}
 use Rattle.word.specs.Records.{records, record_at}
-use Rattle.word.specs.Bytes.{total}
 use Rattle.tape.specs.Instruction.{code_of, read, end}
 use Rattle.tape.proofs.Places.{Passed}
 use Rattle.machine.specs.Run.{Result, after, result_of}
-use Rattle.machine.specs.Flat.{Flat, flat, sizes, copied, flat_by, goes_on, answer_at, Ready, Looping, Ending, Stored, Entered}
-use Rattle.machine.specs.declared.registers.Registers.{Registers}
+use Rattle.machine.specs.Flat.{Flat, flat_by, goes_on, answer_at, Ready, Looping, Ending, Entered}
 use Rattle.machine.proofs.Tables.{checked, stored}
 use Rattle.machine.proofs.Going.{Along, work_left, goes, along_next}
 use Rattle.machine.proofs.Beginning.{Head, head, first_state, begun}

@@ -1,12 +1,12 @@
 -- A byte of an array that is there: it lies within the memory, and the flat index is the definition's. Assumes nothing.
-use mathlib.Core.Path.{◌≡◌, refl, sym, ap, ◌∙◌}
+use mathlib.Core.Path.{◌≡◌, refl}
 use mathlib.Core.List.{List}
 use Prim.Native.Nat.{ℕ, ◌+◌, ◌%◌, ◌<◌, ◌≤◌}
 use native.Mathlib.Omega.{arith}
 use borrow.Author.Tests.{lt-ltb, le-ltb}
 use lib.ListN.{get_or, set as put_at}
 use Rattle.word.specs.Records.{record_at}
-use Rattle.word.specs.Bytes.{base, fetch_if, store_if, fetch, store}
+use Rattle.word.specs.Bytes.{fetch_if, store_if, fetch, store}
 use Rattle.machine.specs.Flat.{sizes, Stored}
 
 module _ {t starts : List ℕ} {bytes a : ℕ} (s : Stored t starts bytes a) (i : ℕ) where

@@ -1,0 +1,34 @@
+-- `machine::course::execute` meets its contract: the lemmas of Sofar, at the places of the loop. Assumes nothing.
+use Rattle.machine.proofs.Sofar.{sofar_start, sofar_ends, sofar_ready, sofar_next, sofar_ending, sofar_answer, entered_head}
+use native.Mathlib.Omega.{arith}
+use mathlib.Core.Path.{sym, ◌∙◌}
+use Rattle.machine.proofs.course.execute.Goals as goal
+
+pub record-head-requires : goal.record-head-requires
+record-head-requires c = (entered_head c.args.arguments.now c.args.memory.now c.requires).there
+
+pub copy-requires : goal.copy-requires
+copy-requires c =
+    let few = (entered_head c.args.arguments.now c.args.memory.now c.requires).few in
+    (omega arith, omega arith)
+
+pub loop-passes-init : goal.loop-passes-init
+loop-passes-init c = rw (c.record-head.ensures, c.copy.ensures) (sofar_start c.args.arguments.now c.args.memory.now c.requires c.args.limit)
+
+pub going-requires : goal.going-requires
+going-requires c = sofar_ends c.loop-passes.invariant
+
+pub step-g-requires : goal.step-g-requires
+step-g-requires c = sofar_ready c.loop-passes.invariant (omega arith) (sym c.going.ensures ∙ c.loop-passes-test.true)
+
+pub loop-passes-smaller : goal.loop-passes-smaller
+loop-passes-smaller c = (sofar_next c.loop-passes.invariant (sym c.going.ensures ∙ c.loop-passes-test.true) c.step-g.ensures).1
+
+pub loop-passes-preserved : goal.loop-passes-preserved
+loop-passes-preserved c = (sofar_next c.loop-passes.invariant (sym c.going.ensures ∙ c.loop-passes-test.true) c.step-g.ensures).0
+
+pub answer-requires : goal.answer-requires
+answer-requires c = sofar_ending c.loop-passes.invariant (omega arith)
+
+pub returns : goal.returns
+returns c = rw c.answer.ensures (sofar_answer c.loop-passes.invariant (sym c.going.ensures ∙ c.loop-passes-test.false))

@@ -1,0 +1,12 @@
+-- `machine::layout::list_functions` meets its contract. The invariant: the functions that have begun so far are listed. The measure is what is left of the tape.
+-- Assumes nothing.
+use Rattle.machine.proofs.Tables.{Found}
+use Rattle.word.specs.Records.{records}
+use Prim.Native.Nat.{◌-◌}
+use Rattle.machine.proofs.layout.list_functions.Given as goal
+
+abbrev pub invariant-loop-at : goal.invariant-loop-at
+invariant-loop-at l = Found l.tape l.places l.count l.at
+
+abbrev pub decreases-loop-at : goal.decreases-loop-at
+decreases-loop-at l = records l.tape - l.at

@@ -1,3 +1,4 @@
+-- `checker::turns::closes` meets its contract: the stores of the FOR that opened the body are read back. Assumes nothing.
 use Rattle.tape.specs.Held.{hold}
 use lib.ListN.{get_or}
 use Prim.Native.Nat.{◌+◌, ◌*◌}

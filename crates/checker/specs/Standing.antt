@@ -1,6 +1,6 @@
 -- What the code of the check keeps of a scan: numbers by value (`Standing`) and rows of numbers that are lent; and the scan that they stand for.
 -- No public contract speaks of these. Assumes nothing: these are definitions.
-use Rattle.std.specs.Prelude.{ℕ, zero, suc, ◌/◌, ◌%◌, ◌^◌, List, [], ◌∷◌, ◌++◌, Bool, true, false, cond, get_or, ltb, eqb}
+use Rattle.std.specs.Prelude.{ℕ, zero, suc, ◌/◌, ◌%◌, ◌^◌, List, [], ◌∷◌, ◌++◌, Bool, false, cond, get_or, ltb, eqb}
 use Rattle.std.specs.Int.Bits.{bit_or}
 use Rattle.word.specs.Slots.{here, Seen, hidden, fixed, defined, Scope, begin}
 use Rattle.tape.specs.Scan.{Due as Awaited, a_program, an_array, a_function, a_body, nothing, Known, Open, Scan}

@@ -47,10 +47,10 @@ lay_a : List ℕ → Sheet → Sheet
 lay_a [] s = s
 lay_a (n ∷ ns) s = lay_a ns (puts (array n) s)
 
-run_A : (ns : List ℕ) (c : Code) (s : Sheet) → run (tape_arrays ns c) s ≡ run c (lay_a ns s)
+run_a : (ns : List ℕ) (c : Code) (s : Sheet) → run (tape_arrays ns c) s ≡ run c (lay_a ns s)
 unfolding tape_arrays run lay_a
-run_A [] c s = refl
-run_A (n ∷ ns) c s = run_A ns c (puts (array n) s)
+run_a [] c s = refl
+run_a (n ∷ ns) c s = run_a ns c (puts (array n) s)
 
 copy_one : (t : List ℕ) (s : Sheet) (at : ℕ) {x : Record} {rest : List Record} → from t at ≡ x ∷ rest
     → (copy t (desk s at) ≡ desk (place x s) (at + 1)) × (from t (at + 1) ≡ rest)
@@ -89,7 +89,7 @@ module _ (t : List ℕ) (p : Program) (w : Within p) (is : records_of t ≡ list
       let (q₁, rest) = arrays_walked t p.arrays s₁ 1 (1 + na) then refl in
       walk_p_found t deeps out _ _ (finds t 0 is).0
       ∙ ap (λ (z : Desk). walk_fs t deeps nf 0 (rolls (times na (copy t) z) row)) q ∙ ap (λ (z : Desk). walk_fs t deeps nf 0 (rolls z row)) q₁
-      ∙ funcs_walked t deeps w.funcs s₂ (1 + na) rest ∙ ap (λ (z : Sheet). z.words) (sym (run_A p.arrays (code_fs deeps 0 p.funcs) s₁))
+      ∙ funcs_walked t deeps w.funcs s₂ (1 + na) rest ∙ ap (λ (z : Sheet). z.words) (sym (run_a p.arrays (code_fs deeps 0 p.funcs) s₁))
 
   -- ---- the figures
   code_p_records : (deeps : List ℕ) → length (code_p deeps p) ≡ length (instructions (translate p))

@@ -23,26 +23,26 @@ run (i ∷ c) s = run c (puts i s)
 mutual
   unfolding tape_e lay_e run
 
-  run_E : (e : CExpr) (c : Code) (s : Sheet) → run (tape_e e c) s ≡ run c (lay_e e s)
-  run_E (LIT v) c s = refl
-  run_E (VAR x) c s = refl
-  run_E (GET a i) c s = run_E i (get a ∷ c) s
-  run_E (NOT e) c s = run_E e (not ∷ c) s
-  run_E (BIN o l r) c s = run_E l (tape_e r (bin (code o) ∷ c)) s ∙ run_E r (bin (code o) ∷ c) (lay_e l s)
-  run_E (CALL f es) c s = run_Es es (call f ∷ c) s
+  run_e : (e : CExpr) (c : Code) (s : Sheet) → run (tape_e e c) s ≡ run c (lay_e e s)
+  run_e (LIT v) c s = refl
+  run_e (VAR x) c s = refl
+  run_e (GET a i) c s = run_e i (get a ∷ c) s
+  run_e (NOT e) c s = run_e e (not ∷ c) s
+  run_e (BIN o l r) c s = run_e l (tape_e r (bin (code o) ∷ c)) s ∙ run_e r (bin (code o) ∷ c) (lay_e l s)
+  run_e (CALL f es) c s = run_es es (call f ∷ c) s
 
-  run_Es : (es : CExprs) (c : Code) (s : Sheet) → run (tape_es es c) s ≡ run c (lay_es es s)
-  run_Es NONE c s = refl
-  run_Es (MORE e es) c s = run_E e (tape_es es c) s ∙ run_Es es c (lay_e e s)
+  run_es : (es : CExprs) (c : Code) (s : Sheet) → run (tape_es es c) s ≡ run c (lay_es es s)
+  run_es NONE c s = refl
+  run_es (MORE e es) c s = run_e e (tape_es es c) s ∙ run_es es c (lay_e e s)
 
-pub run_S : (b : CStmt) (c : Code) (s : Sheet) → run (tape_s b c) s ≡ run c (lay_s b s)
+pub run_s : (b : CStmt) (c : Code) (s : Sheet) → run (tape_s b c) s ≡ run c (lay_s b s)
 unfolding tape_s lay_s run
-run_S SKIP c s = refl
-run_S (a ⨾ b) c s = run_S a (tape_s b c) s ∙ run_S b c (lay_s a s)
-run_S (DEF x e) c s = run_E e (def x ∷ c) s
-run_S (SET x e) c s = run_E e (set x ∷ c) s
-run_S (PUT a i e) c s = run_E i (tape_e e (put a ∷ c)) s ∙ run_E e (put a ∷ c) (lay_e i s)
-run_S (FOR x q r b) c s = run_S b (end ∷ c) (puts (for x q r) s)
+run_s SKIP c s = refl
+run_s (a ⨾ b) c s = run_s a (tape_s b c) s ∙ run_s b c (lay_s a s)
+run_s (DEF x e) c s = run_e e (def x ∷ c) s
+run_s (SET x e) c s = run_e e (set x ∷ c) s
+run_s (PUT a i e) c s = run_e i (tape_e e (put a ∷ c)) s ∙ run_e e (put a ∷ c) (lay_e i s)
+run_s (FOR x q r b) c s = run_s b (end ∷ c) (puts (for x q r) s)
 
 -- where there is room for all of it, it is the code's words, one after another
 abbrev pub bare : List ℕ → ℕ → Sheet

@@ -22,7 +22,7 @@ use Rattle.emitting.specs.Walking.{Desk, desk, on}
 use Rattle.compiler.specs.Writing.{rolls, heads, body_of, walk_f, walk_fs}
 use Rattle.compiler.proofs.Tables.{walk_f_found}
 use Rattle.compiler.proofs.Walked.{stmt_walked}
-use Rattle.compiler.proofs.Laying.{run, run_S}
+use Rattle.compiler.proofs.Laying.{run, run_s}
 
 -- ---- one function, its CFUNC with the depth that is given
 unfoldable pub lay_f : ℕ → Func → Sheet → Sheet
@@ -31,9 +31,9 @@ lay_f deep g s = puts (ret g.slots) (lay_s (STT (layout g.slots) 0 g.body) (head
 unfoldable pub code_f : ℕ → Func → Code → Code
 code_f deep g c = cfunc g.params (hold (g.slots + 2 + deep)) ∷ tape_s (FDEFT g).body (ret g.slots ∷ c)
 
-run_F : (deep : ℕ) (g : Func) (c : Code) (s : Sheet) → run (code_f deep g c) s ≡ run c (lay_f deep g s)
+run_f : (deep : ℕ) (g : Func) (c : Code) (s : Sheet) → run (code_f deep g c) s ≡ run c (lay_f deep g s)
 unfolding code_f lay_f FDEFT heads tape_s tape_e run
-run_F deep g c s = run_S (STT (layout g.slots) 0 g.body) (ret g.slots ∷ c) (heads g.params g.slots deep s)
+run_f deep g c s = run_s (STT (layout g.slots) 0 g.body) (ret g.slots ∷ c) (heads g.params g.slots deep s)
 
 -- ---- all functions, each CFUNC with the depth that the row says
 unfoldable pub code_fs : List ℕ → ℕ → List Func → Code
@@ -69,4 +69,4 @@ module _ (t deeps : List ℕ) where
       let f = v.func in
       let (one, then) = func_walked v g s at h is in
       (λ j. walk_fs t deeps (length gs) (add-one f j) (one j)) ∙ funcs_walked r (lay_f (get_or deeps f 0) g s) (at + size_f g) then
-      ∙ ap (λ (z : Sheet). z.words) (sym (run_F (get_or deeps f 0) g (code_fs deeps (suc f) gs) s))
+      ∙ ap (λ (z : Sheet). z.words) (sym (run_f (get_or deeps f 0) g (code_fs deeps (suc f) gs) s))

@@ -57,11 +57,11 @@ module _ (t : List ℕ) (v : Env) where
   Leaves z s end rest = (z ≡ desk s end) × (from t end ≡ rest)
 
   -- ---- expressions
-  head_E : (h : HeadE) (left at : ℕ) (s : Sheet) {rest : List Record} → from t at ≡ write_e h ∷ rest → 1 ≤ left
+  head_e_lem : (h : HeadE) (left at : ℕ) (s : Sheet) {rest : List Record} → from t at ≡ write_e h ∷ rest → 1 ≤ left
       → (walk_e v.params t left (desk s at) ≡ on (own h) (times (arity v.params h) (walk_e v.params t (left - 1)) (desk s (at + 1))))
       × (from t (at + 1) ≡ rest)
   unfolding expression
-  head_E h left at s is some =
+  head_e_lem h left at s is some =
       let (read, rest) = finds t at is in (
         walk_e_found v.params t left (desk s at) _ _ (omega arith) read
             ∙ ap (λ (g : HeadE). on (own g) (times (arity v.params g) (walk_e v.params t (left - 1)) (desk s (at + 1)))) (expression_lawful.again h),
@@ -76,29 +76,29 @@ module _ (t : List ℕ) (v : Env) where
 
     expr_walked : (x : Expr) (left at end : ℕ) (s : Sheet) {rest : List Record} → from t at ≡ list_e x rest → depth_e x ≤ left → InE v x → end ≡ at + size_e x
         → Leaves (walk_e v.params t left (desk s at)) (lay_e (EXT x) s) end rest
-    expr_walked (num n) left at end s is d i e = leaf e (head_E (NUM n) left at s is d)
-    expr_walked tru left at end s is d i e = leaf e (head_E TRUE left at s is d)
-    expr_walked fls left at end s is d i e = leaf e (head_E FALSE left at s is d)
-    expr_walked (var x) left at end s is d i e = leaf e (head_E (VAR x) left at s is d)
+    expr_walked (num n) left at end s is d i e = leaf e (head_e_lem (NUM n) left at s is d)
+    expr_walked tru left at end s is d i e = leaf e (head_e_lem TRUE left at s is d)
+    expr_walked fls left at end s is d i e = leaf e (head_e_lem FALSE left at s is d)
+    expr_walked (var x) left at end s is d i e = leaf e (head_e_lem (VAR x) left at s is d)
     expr_walked (get a x) left at end s is d i e =
-        let (p, then) = head_E (GET a) left at s is (omega arith) in
+        let (p, then) = head_e_lem (GET a) left at s is (omega arith) in
         let (q, rest) = expr_walked x (left - 1) (at + 1) end s then (omega arith) i.1 (omega arith) in
         (p ∙ ap (on (puts _)) q, rest)
     expr_walked (lnot x) left at end s is d i e =
-        let (p, then) = head_E LNOT left at s is (omega arith) in
+        let (p, then) = head_e_lem LNOT left at s is (omega arith) in
         let (q, rest) = expr_walked x (left - 1) (at + 1) end s then (omega arith) i (omega arith) in
         (p ∙ ap (on (puts _)) q, rest)
     expr_walked (bnot x) left at end s is d i e =
-        let (p, then) = head_E BNOT left at s is (omega arith) in
+        let (p, then) = head_e_lem BNOT left at s is (omega arith) in
         let (q, rest) = expr_walked x (left - 1) (at + 1) end s then (omega arith) i (omega arith) in
         (p ∙ ap (on (puts _)) q, rest)
     expr_walked (bin o l r) left at end s is d i e =
-        let (p, then) = head_E (BIN (code o)) left at s is (omega arith) in
+        let (p, then) = head_e_lem (BIN (code o)) left at s is (omega arith) in
         let (q, then₁) = expr_walked l (left - 1) (at + 1) (at + 1 + size_e l) s then (omega arith) i.0 refl in
         let (q₁, rest) = expr_walked r (left - 1) (at + 1 + size_e l) end (lay_e (EXT l) s) then₁ (omega arith) i.1 (omega arith) in
         (p ∙ ap (on (own (BIN (code o)))) (ap (walk_e v.params t (left - 1)) q ∙ q₁) ∙ rw (lowered_code_lem o) refl, rest)
     expr_walked (call f xs) left at end s is d i e =
-        let (p, then) = head_E (CALL f) left at s is (omega arith) in
+        let (p, then) = head_e_lem (CALL f) left at s is (omega arith) in
         let (q, rest) = exprs_walked xs (left - 1) (at + 1) end s then (omega arith) i.2 (omega arith) in
         (p ∙ ap (on (own (CALL f))) (ap (λ (k : ℕ). times k (walk_e v.params t (left - 1)) (desk s (at + 1))) (sym i.1) ∙ q), rest)
 
@@ -114,12 +114,12 @@ module _ (t : List ℕ) (v : Env) where
 
   -- ---- statements, in a function with n slots
   module _ (n : ℕ) where
-    head_S : (h : HeadS) (left d at : ℕ) (s : Sheet) {rest : List Record} → from t at ≡ write_s h ∷ rest → 1 ≤ left
+    head_s_lem : (h : HeadS) (left d at : ℕ) (s : Sheet) {rest : List Record} → from t at ≡ write_s h ∷ rest → 1 ≤ left
         → (walk_s v.params t (layout n) left d (desk s at)
         ≡ head_s v.params t (layout n) (walk_s v.params t (layout n) (left - 1)) d (desk s (at + 1)) h)
         × (from t (at + 1) ≡ rest)
     unfolding statement
-    head_S h left d at s is some =
+    head_s_lem h left d at s is some =
         let (read, rest) = finds t at is in (
           walk_s_found v.params t (layout n) left d (desk s at) _ _ (omega arith) read
               ∙ ap (head_s v.params t (layout n) (walk_s v.params t (layout n) (left - 1)) d (desk s (at + 1))) (statement_lawful.again h),
@@ -131,21 +131,21 @@ module _ (t : List ℕ) (v : Env) where
 
       pub stmt_walked : (x : Stmt) (left d at end : ℕ) (s : Sheet) {rest : List Record} → from t at ≡ list_s x rest → depth_s x ≤ left → Inside v x → end ≡ at + size_s x
           → Leaves (walk_s v.params t (layout n) left d (desk s at)) (lay_s (STT (layout n) d x) s) end rest
-      stmt_walked skip left d at end s is k i e = leaf e (head_S SKIP left d at s is k)
+      stmt_walked skip left d at end s is k i e = leaf e (head_s_lem SKIP left d at s is k)
       stmt_walked (seq ss) left d at end s is k i e =
-          let (p, then) = head_S (SEQ (count_s ss)) left d at s is (omega arith) in
+          let (p, then) = head_s_lem (SEQ (count_s ss)) left d at s is (omega arith) in
           let (q, rest) = stmts_walked ss (left - 1) d (at + 1) end s then (omega arith) i.2 (omega arith) in
           (p ∙ q, rest)
       stmt_walked (def x u) left d at end s is k i e =
-          let (p, then) = head_S (DEF x) left d at s is k in
+          let (p, then) = head_s_lem (DEF x) left d at s is k in
           let (q, rest) = expr_walked u 16 (at + 1) end s then i.1.1 i.1.0 (omega arith) in
           (p ∙ ap (on (puts _)) q, rest)
       stmt_walked (set x u) left d at end s is k i e =
-          let (p, then) = head_S (SET x) left d at s is k in
+          let (p, then) = head_s_lem (SET x) left d at s is k in
           let (q, rest) = expr_walked u 16 (at + 1) end s then i.1.1 i.1.0 (omega arith) in
           (p ∙ ap (on (assigns (layout n) d x)) q ∙ ap (λ (z : Sheet). desk z end) (set_laid n d x u s), rest)
       stmt_walked (put a j u) left d at end s is k i e =
-          let (p, then) = head_S (PUT a) left d at s is k in
+          let (p, then) = head_s_lem (PUT a) left d at s is k in
           let mid = at + 1 + size_e j in
           let (q, then₁) = expr_walked j 16 (at + 1) mid s then i.1.1 i.1.0 refl in
           let (q₁, rest) = expr_walked u 16 mid end (lay_e (EXT j) s) then₁ i.2.1 i.2.0 (omega arith) in
@@ -153,11 +153,11 @@ module _ (t : List ℕ) (v : Env) where
           let again = (expr_walked j 16 (at + 1) mid value then i.1.1 i.1.0 refl).0 in
           (p ∙ rw (q, q₁, again) refl ∙ ap (λ (z : Sheet). desk z end) (put_laid n d a j u s), rest)
       stmt_walked (for x f g b) left d at end s is k i e =
-          let (p, then) = head_S (FOR x f g) left d at s is (omega arith) in
+          let (p, then) = head_s_lem (FOR x f g) left d at s is (omega arith) in
           let (q, rest) = stmt_walked b (left - 1) d (at + 1) end _ then (omega arith) i.3 (omega arith) in
           (p ∙ ap (on (puts core-end)) q, rest)
       stmt_walked (if c a b) left d at end s is k i e =
-          let (p, then) = head_S IF left d at s is (omega arith) in
+          let (p, then) = head_s_lem IF left d at s is (omega arith) in
           let i₁ = at + 1 + size_e c in
           let i₂ = i₁ + size_s a in
           let (q, then₁) = expr_walked c 16 (at + 1) i₁ s then i.0.1 i.0.0 refl in
@@ -167,7 +167,7 @@ module _ (t : List ℕ) (v : Env) where
           let (q₂, rest) = stmt_walked b (left - 1) (suc d) i₂ end s₂ then₂ (omega arith) i.2 (omega arith) in
           (p ∙ rw (q, q₁, q₂) refl, rest)
       stmt_walked (return u) left d at end s is k i e =
-          let (p, then) = head_S RETURN left d at s is k in
+          let (p, then) = head_s_lem RETURN left d at s is k in
           let (q, rest) = expr_walked u 16 (at + 1) end s then i.1 i.0 (omega arith) in
           (p ∙ ap (on (gives (layout n) d)) q ∙ ap (λ (z : Sheet). desk z end) (return_laid n d u s), rest)
 

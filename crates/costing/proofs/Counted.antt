@@ -11,7 +11,7 @@ use Rattle.script.specs.Written.{count_s, list_e, list_s, list_ss, depth_s, dept
 use Rattle.script.specs.declared.Env.{Env}
 use Rattle.script.proofs.Leading.{from, statement_lawful}
 use Rattle.scoping.proofs.Found.{finds}
-use Rattle.scoping.proofs.Past.{past_E, past_S}
+use Rattle.scoping.proofs.Past.{past_e, past_s}
 use Rattle.tape.specs.Steps.{most, steps_e, steps_s}
 use Rattle.tape.specs.Held.{hold}
 use Rattle.tape.proofs.Counts.{hold_within, hold_hold, hold_loop}
@@ -39,10 +39,10 @@ module _ (v : Env) (κ t : List ℕ) (few : v.func ≤ 16) (n : ℕ) where
   laid_held a r k m c = (hold_hold (c.records + r), hold_hold (c.steps + k))
 
   -- the statement's own record
-  head_S : (h : HeadS) (left d : ℕ) (c : Count) (rest : List Record) → from t c.at.at ≡ write_s h ∷ rest → 1 ≤ left
+  head_s_lem : (h : HeadS) (left d : ℕ) (c : Count) (rest : List Record) → from t c.at.at ≡ write_s h ∷ rest → 1 ≤ left
       → (counts left d c ≡ head v.params κ t (counts (left - 1)) d (moved (c.at.at + 1) c) h) × (from t (c.at.at + 1) ≡ rest)
   unfolding class
-  head_S h left d c rest is some =
+  head_s_lem h left d c rest is some =
       let (read, on) = finds t c.at.at is in (
         statement_found v.params κ t left d c (write_s h) _ (omega arith) read
             ∙ ap (head v.params κ t (counts (left - 1)) d (moved (c.at.at + 1) c)) (statement_lawful.again h),
@@ -69,7 +69,7 @@ module _ (v : Env) (κ t : List ℕ) (few : v.func ≤ 16) (n : ℕ) where
       let first = moved (c.at.at + 1) c in
       let both = value e (value x first) in
       let read = ap E (expr_counted v κ few t x first (list_e e rest) on i (omega arith))
-      ∙ expr_counted v κ few t e (value x first) rest (past_E t x (c.at.at + 1) on) j (omega arith) in
+      ∙ expr_counted v κ few t e (value x first) rest (past_e t x (c.at.at + 1) on) j (omega arith) in
       let again = expr_counted v κ few t x (moved (c.at.at + 1) both) (list_e e rest) on i (omega arith) in
       ap (λ (z : Count). masked d (moved z.at.at (E (moved (c.at.at + 1) z)))) read ∙ ap (λ (z : Count). masked d (moved both.at.at z)) again
       ∙ alike (omega arith) (add_all c.records (size_e x) (size_e e) (size_e x) (4 * d + 12) _ (omega (arith, put_records n d a x e)))
@@ -105,8 +105,8 @@ module _ (v : Env) (κ t : List ℕ) (few : v.func ≤ 16) (n : ℕ) where
       let r = records_s (STT (layout n) (suc d) s) in
       let k = steps_s takes (STT (layout n) (suc d) s) in
       let y = laid (size_s s) r k (suc d + depth s) z in
-      let at-s = past_E t e (c.at.at + 1) on in
-      let at-u = past_S t s (c.at.at + 1 + size_e e) at-s in
+      let at-s = past_e t e (c.at.at + 1) on in
+      let at-u = past_s t s (c.at.at + 1 + size_e e) at-s in
       ap (λ (w : Count). f (f (deeper (suc d) (plus 4 4 w)))) (expr_counted v κ few t e first (list_s s (list_s u rest)) on i l)
       ∙ ap f (then z at-s (hold_hold _, hold_hold _) (omega arith)) ∙ else y at-u (laid_held (size_s s) r k (suc d + depth s) z) (omega arith)
       ∙ alike (omega arith) (add_all c.records (size_e e) 4 r _ _ (omega (arith, if_records n d e s u)))
@@ -119,32 +119,32 @@ module _ (v : Env) (κ t : List ℕ) (few : v.func ≤ 16) (n : ℕ) where
         → Held c → d ≤ c.deepest
         → counts left d c ≡ laid (size_s x) (records_s (STT (layout n) d x)) (steps_s takes (STT (layout n) d x)) (d + depth x) c
     stmt_counted skip left d c rest is k i l h m =
-        (head_S SKIP left d c rest is k).0 ∙ alike refl (nothing_more c.records h.0) (nothing_more c.steps h.1) (omega arith)
+        (head_s_lem SKIP left d c rest is k).0 ∙ alike refl (nothing_more c.records h.0) (nothing_more c.steps h.1) (omega arith)
     stmt_counted (seq xs) left d c rest is k i l h m =
-        let (p, on) = head_S (SEQ (count_s xs)) left d c (list_ss xs rest) is (omega arith) in
+        let (p, on) = head_s_lem (SEQ (count_s xs)) left d c (list_ss xs rest) is (omega arith) in
         p ∙ stmts_counted xs (left - 1) d (moved (c.at.at + 1) c) rest on (omega arith) i.2 (omega arith) h m ∙ alike (omega arith) refl refl refl
     stmt_counted (def x e) left d c rest is k i l h m =
-        let (p, on) = head_S (DEF x) left d c (list_e e rest) is k in
+        let (p, on) = head_s_lem (DEF x) left d c (list_e e rest) is k in
         p ∙ ap (plus 1 1) (expr_counted v κ few t e (moved (c.at.at + 1) c) rest on i.1.0 (omega arith))
         ∙ behind e 1 1 _ _ _ d c (omega arith) (def_records n d x e) (omega arith) m
     stmt_counted (set x e) left d c rest is k i l h m =
-        let (p, on) = head_S (SET x) left d c (list_e e rest) is k in
+        let (p, on) = head_s_lem (SET x) left d c (list_e e rest) is k in
         p ∙ ap (masked d) (expr_counted v κ few t e (moved (c.at.at + 1) c) rest on i.1.0 (omega arith))
         ∙ behind e (4 * d + 12) (4 * d + 10) _ _ _ d c (omega arith) (omega (arith, set_records n d x e)) (omega (arith, set_steps takes n d x e)) m
     stmt_counted (put a x e) left d c rest is k i l h m =
-        let (p, on) = head_S (PUT a) left d c (list_e x (list_e e rest)) is k in
+        let (p, on) = head_s_lem (PUT a) left d c (list_e x (list_e e rest)) is k in
         p ∙ put_counted a x e d c rest on i.1.0 i.2.0 (omega arith) m
     stmt_counted (for x q r s) left d c rest is k i l h m =
-        let (p, on) = head_S (FOR x q r) left d c (list_s s rest) is (omega arith) in
+        let (p, on) = head_s_lem (FOR x q r) left d c (list_s s rest) is (omega arith) in
         p ∙ for_counted x q r s (left - 1) d c h (stmt_counted s (left - 1) d (opened (moved (c.at.at + 1) c)) rest on (omega arith) i.3 (omega arith)
         (hold_hold (c.records + 2), hold_within 0 (omega arith)) m)
     stmt_counted (if e s u) left d c rest is k i l h m =
-        let (p, on) = head_S IF left d c (list_e e (list_s s (list_s u rest))) is (omega arith) in
+        let (p, on) = head_s_lem IF left d c (list_e e (list_s s (list_s u rest))) is (omega arith) in
         p ∙ if_counted e s u (left - 1) d c rest on i.0.0 (omega arith) m
         (λ z is' h' m'. stmt_counted s (left - 1) (suc d) z (list_s u rest) is' (omega arith) i.1 (omega arith) h' m')
         (λ z is' h' m'. stmt_counted u (left - 1) (suc d) z rest is' (omega arith) i.2 (omega arith) h' m')
     stmt_counted (return e) left d c rest is k i l h m =
-        let (p, on) = head_S RETURN left d c (list_e e rest) is k in
+        let (p, on) = head_s_lem RETURN left d c (list_e e rest) is k in
         p ∙ ap (masked d) (expr_counted v κ few t e (moved (c.at.at + 1) c) rest on i.0 (omega arith))
         ∙ behind e (4 * d + 12) (4 * d + 10) _ _ _ d c (omega arith) (omega (arith, return_records n d e)) (omega (arith, return_steps takes n d e)) m
 
@@ -157,5 +157,5 @@ module _ (v : Env) (κ t : List ℕ) (few : v.func ≤ 16) (n : ℕ) where
         let s = steps_s takes (STT (layout n) d x) in
         let z = laid (size_s x) r s (d + depth x) c in
         ap (times (count_s xs) (counts left d)) (stmt_counted x left d c (list_ss xs rest) is (omega arith) i.0 (omega arith) h m)
-        ∙ stmts_counted xs left d z rest (past_S t x c.at.at is) (omega arith) i.1 (omega arith) (laid_held (size_s x) r s (d + depth x) c) (omega arith)
+        ∙ stmts_counted xs left d z rest (past_s t x c.at.at is) (omega arith) i.1 (omega arith) (laid_held (size_s x) r s (d + depth x) c) (omega arith)
         ∙ alike (omega arith) (add_held c.records r _ _ refl) (add_held c.steps s _ _ refl) (omega arith)

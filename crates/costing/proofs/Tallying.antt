@@ -83,47 +83,47 @@ module _ (v : Env) (κ : List ℕ) (few : v.func ≤ 16) where
   mutual
     unfolding list_e write_e tally tally_one arity_of weight InE size_e count_e steps_e EXT
 
-    tally_E : (e : Expr) (p : ℕ) (c : Count) (rest : List Record) → InE v e → p + size_e e ≤ most
+    tally_e : (e : Expr) (p : ℕ) (c : Count) (rest : List Record) → InE v e → p + size_e e ≤ most
         → tallied (list_e e rest) (suc p) c ≡ tallied rest p (past (size_e e) (steps_e takes (EXT e)) c)
-    tally_E (num n) p c rest i l = waits rest p 0 p (past 1 0 c) (omega arith) (omega arith)
-    tally_E tru p c rest i l = waits rest p 0 p (past 1 0 c) (omega arith) (omega arith)
-    tally_E fls p c rest i l = waits rest p 0 p (past 1 0 c) (omega arith) (omega arith)
-    tally_E (var x) p c rest i l = waits rest p 0 p (past 1 1 c) (omega arith) (omega arith)
-    tally_E (get a x) p c rest i l =
-        waits (list_e x rest) p 1 (suc p) (past 1 1 c) (omega arith) (omega arith) ∙ tally_E x p (past 1 1 c) rest i.1 (omega arith)
+    tally_e (num n) p c rest i l = waits rest p 0 p (past 1 0 c) (omega arith) (omega arith)
+    tally_e tru p c rest i l = waits rest p 0 p (past 1 0 c) (omega arith) (omega arith)
+    tally_e fls p c rest i l = waits rest p 0 p (past 1 0 c) (omega arith) (omega arith)
+    tally_e (var x) p c rest i l = waits rest p 0 p (past 1 1 c) (omega arith) (omega arith)
+    tally_e (get a x) p c rest i l =
+        waits (list_e x rest) p 1 (suc p) (past 1 1 c) (omega arith) (omega arith) ∙ tally_e x p (past 1 1 c) rest i.1 (omega arith)
         ∙ ap (tallied rest p) (past_onto (size_e x) _ 1 1 (suc (size_e x)) (suc (steps_e takes (EXT x))) c (omega arith) (omega arith))
-    tally_E (lnot x) p c rest i l =
-        waits (list_e x rest) p 1 (suc p) (past 1 1 c) (omega arith) (omega arith) ∙ tally_E x p (past 1 1 c) rest i (omega arith)
+    tally_e (lnot x) p c rest i l =
+        waits (list_e x rest) p 1 (suc p) (past 1 1 c) (omega arith) (omega arith) ∙ tally_e x p (past 1 1 c) rest i (omega arith)
         ∙ ap (tallied rest p) (past_onto (size_e x) _ 1 1 (suc (size_e x)) (suc (steps_e takes (EXT x))) c (omega arith) (omega arith))
-    tally_E (bnot x) p c rest i l =
-        waits (list_e x rest) p 1 (suc p) (past 1 1 c) (omega arith) (omega arith) ∙ tally_E x p (past 1 1 c) rest i (omega arith)
+    tally_e (bnot x) p c rest i l =
+        waits (list_e x rest) p 1 (suc p) (past 1 1 c) (omega arith) (omega arith) ∙ tally_e x p (past 1 1 c) rest i (omega arith)
         ∙ ap (tallied rest p) (past_onto (size_e x) _ 1 1 (suc (size_e x)) (suc (steps_e takes (EXT x))) c (omega arith) (omega arith))
-    tally_E (bin o x y) p c rest i l =
-        waits (list_e x (list_e y rest)) p 2 (suc (suc p)) (past 1 1 c) (omega arith) (omega (arith, size_e_some x)) ∙ tally_E x (suc p) (past 1 1 c) (list_e y rest) i.0 (omega arith)
-        ∙ tally_E y p _ rest i.1 (omega arith)
+    tally_e (bin o x y) p c rest i l =
+        waits (list_e x (list_e y rest)) p 2 (suc (suc p)) (past 1 1 c) (omega arith) (omega (arith, size_e_some x)) ∙ tally_e x (suc p) (past 1 1 c) (list_e y rest) i.0 (omega arith)
+        ∙ tally_e y p _ rest i.1 (omega arith)
         ∙ ap (λ (z : Count). tallied rest p (past (size_e y) (steps_e takes (EXT y)) z)) (past_onto (size_e x) _ 1 1 _ _ c refl refl)
         ∙ ap (tallied rest p) (past_onto (size_e y) _ (1 + size_e x) (1 + steps_e takes (EXT x)) (suc (size_e x + size_e y)) (suc (steps_e takes (EXT x) + steps_e takes (EXT y))) c
         (omega arith) (omega arith))
-    tally_E (call f es) p c rest i l =
+    tally_e (call f es) p c rest i l =
         let k = takes f in
         let below : f < 16 = omega (arith, i.0, few) in
         let parts : params_of v.params f ≡ count_e es = said_of v.params f below ∙ sym i.1 in
         let own : past 1 (hold (1 + params_of κ f)) c ≡ past 1 (1 + k) c = ap (λ (n : ℕ). past 1 (hold (1 + n)) c) (said_of κ f below) ∙ weighs c (1 + k) in
         (λ j. tallied (list_es es rest) (hold (p + parts j)) (own j))
         ∙ waits (list_es es rest) p (count_e es) (count_e es + p) (past 1 (1 + k) c) (omega arith) (omega (arith, count_size es))
-        ∙ tally_Es es p (past 1 (1 + k) c) rest i.2 (past_held 1 (1 + k) c) (omega arith)
+        ∙ tally_es es p (past 1 (1 + k) c) rest i.2 (past_held 1 (1 + k) c) (omega arith)
         ∙ ap (tallied rest p) (past_onto (size_es es) _ 1 (1 + k) (suc (size_es es)) (suc (steps_es takes (EXTs es) + k)) c (omega arith) (omega arith))
 
-    tally_Es : (es : Exprs) (p : ℕ) (c : Count) (rest : List Record) → InEs v es → Held c → p + size_es es ≤ most
+    tally_es : (es : Exprs) (p : ℕ) (c : Count) (rest : List Record) → InEs v es → Held c → p + size_es es ≤ most
         → tallied (list_es es rest) (count_e es + p) c ≡ tallied rest p (past (size_es es) (steps_es takes (EXTs es)) c)
-    tally_Es none p c rest i h l =
+    tally_es none p c rest i h l =
         let e : 0 + p ≡ p = omega arith in
         λ j. tallied rest (e j) (past_nothing c h j)
-    tally_Es (more e es) p c rest i h l =
+    tally_es (more e es) p c rest i h l =
         let one : suc (count_e es) + p ≡ suc (count_e es + p) = omega arith in
         ap (λ (k : ℕ). tallied (list_e e (list_es es rest)) k c) one
-        ∙ tally_E e (count_e es + p) c (list_es es rest) i.0 (omega (arith, count_size es))
-        ∙ tally_Es es p _ rest i.1 (past_held (size_e e) (steps_e takes (EXT e)) c) (omega arith)
+        ∙ tally_e e (count_e es + p) c (list_es es rest) i.0 (omega (arith, count_size es))
+        ∙ tally_es es p _ rest i.1 (past_held (size_e e) (steps_e takes (EXT e)) c) (omega arith)
         ∙ ap (tallied rest p) (past_onto (size_es es) _ (size_e e) (steps_e takes (EXT e)) _ _ c refl refl)
 
   -- an expression where it stands
@@ -131,4 +131,4 @@ module _ (v : Env) (κ : List ℕ) (few : v.func ≤ 16) where
       → expression v.params κ t c ≡ past (size_e e) (steps_e takes (EXT e)) c
   unfolding expression
   expr_counted t e c rest is i l =
-      ap (λ (xs : List Record). tallied xs 1 c) is ∙ tally_E e 0 c rest i (omega arith) ∙ tally_over v.params κ rest 0 _ refl
+      ap (λ (xs : List Record). tallied xs 1 c) is ∙ tally_e e 0 c rest i (omega arith) ∙ tally_over v.params κ rest 0 _ refl

@@ -25,7 +25,7 @@ use Rattle.script.proofs.Walks.{faulty}
 use Rattle.script.proofs.Sizes.{size_fs, listing_size}
 use Rattle.scoping.specs.Passes.{noted}
 use Rattle.scoping.proofs.Found.{finds, lists, begins}
-use Rattle.scoping.proofs.Past.{past_S}
+use Rattle.scoping.proofs.Past.{past_s}
 use Rattle.tape.specs.Instruction.{write, words}
 use Rattle.tape.specs.Tape.{instructions, tape}
 use Rattle.tape.specs.Steps.{most, steps_s, steps_f, steps_of, steps_exposed}
@@ -80,7 +80,7 @@ module _ (t : List ℕ) where
             ∙ (λ j. totals (count (c.at.at + suc (size_s g.body)) (hold (c.records + records_f (FDEFT g))) k (depth g.body)) (keeps v.params f g.params few j)
             ((ap (noted κ f) (hold_hold (steps_f (λ i. get_or κ i 0) (FDEFT g))) ∙ keeps κ f k few) j)
             ((ap (noted deeps f) (hold_within (depth g.body) deep) ∙ keeps deeps f (depth g.body) few) j)),
-        (let e : c.at.at + suc (size_s g.body) ≡ c.at.at + 1 + size_s g.body = omega arith in rw e (past_S t g.body (c.at.at + 1) on)),
+        (let e : c.at.at + suc (size_s g.body) ≡ c.at.at + 1 + size_s g.body = omega arith in rw e (past_s t g.body (c.at.at + 1) on)),
       )
 
 -- ---- all functions

@@ -1,6 +1,6 @@
 -- The machine's state as the code keeps it: registers, and flat lists that they count into. This is an implementation, proved to stand for the
 -- core rules; the contract of `run` does not speak of it. Assumes nothing: these are definitions.
-use Rattle.std.specs.Prelude.{ℕ, zero, suc, ◌+◌, ◌-◌, ◌*◌, ◌≤◌, ◌<◌, ◌^◌, ◌≡◌, List, [], ◌∷◌, Bool, true, false, not as negated, length, get_or, set as put_at, drop, ltb, eqb}
+use Rattle.std.specs.Prelude.{ℕ, zero, suc, ◌+◌, ◌-◌, ◌≤◌, ◌<◌, ◌^◌, ◌≡◌, List, [], ◌∷◌, Bool, true, false, not as negated, length, get_or, set as put_at, drop, ltb, eqb}
 use Rattle.word.specs.Value.{op, flip}
 use Rattle.word.specs.Code.{op_of}
 use Rattle.word.specs.Records.{records, record_at}

@@ -8,7 +8,7 @@ use Rattle.tape.specs.Check.{check}
 use Rattle.tape.specs.declared.Checked.{Checked}
 use Rattle.tape.specs.declared.Checked.TheVariants.{Accepted, Refused as Faulty}
 use Rattle.tape.specs.Entries.{lengths_of, entry_at, exposed}
-use Rattle.tape.specs.Rules.{World, Machine, at, halted, stuck, stands, place}
+use Rattle.tape.specs.Rules.{Machine, at, halted, stuck, stands, place}
 use Rattle.machine.specs.declared.Ran.{Ran}
 use Rattle.machine.specs.declared.Ran.TheVariants.{Done, Stopped, Refused}
 

@@ -1,11 +1,11 @@
 -- The compiler's promises (demands 1 to 3). The contract of `compiler::compile` is that its answer and the words of the output at exit are `compile`'s, which is
 -- what these theorems speak of. Assumes nothing.
-use mathlib.Core.Path.{◌≡◌, refl, sym, ap, ◌∙◌, subst}
+use mathlib.Core.Path.{◌≡◌, refl, sym, ap, ◌∙◌}
 use mathlib.Core.Bool.{Bool, true, false}
 use mathlib.Core.List.{List, [], ◌∷◌, ◌++◌, map}
-use Prim.Native.Nat.{ℕ, zero, suc, ◌+◌, ◌-◌, ◌*◌, ◌≤◌, ◌<◌}
+use Prim.Native.Nat.{ℕ, ◌+◌, ◌*◌, ◌≤◌}
 use native.Mathlib.Omega.{arith}
-use borrow.Author.Tests.{leb-true, leb-false, lt-leb}
+use borrow.Author.Tests.{leb-true}
 use lib.Dec.{leb}
 use lib.ListN.{length, take, drop}
 use lib.Seq.{sets, sets-eq, length-sets, take-append_seam, drop-append_seam}
@@ -31,14 +31,14 @@ use Rattle.tape.specs.declared.Checked.TheVariants.{Accepted}
 use Rattle.tape.proofs.Written.{code_words}
 use Rattle.tape.proofs.Entering.{entry_of, last_of, tape_lengths, tape_exposed}
 use Rattle.translation.specs.Translate.{translate, FDEFT}
-use Rattle.translation.specs.Compile.{Result, stages, first_of, written, unless_fault, compile_by, compile}
+use Rattle.translation.specs.Compile.{stages, first_of, written, unless_fault, compile_by, compile}
 use Rattle.translation.specs.declared.Compiled.{Compiled}
 use Rattle.translation.specs.declared.Compiled.TheVariants.{Tape, Refused}
 use Rattle.translation.proofs.Accepted.{accepted_correct, accepted_translated}
 use Rattle.translation.proofs.Limits.{tape_accepted as accepted-tape}
 use Rattle.machine.specs.Run.{begin, after, result_of, run}
 use Rattle.machine.specs.declared.Ran.TheVariants.{Done}
-use Rattle.promises.specs.Compiles.{tape_left, TapeOf, takes, Faulty, by_reading, by_stage, by_room}
+use Rattle.promises.specs.Compiles.{tape_left, TapeOf, takes}
 use Rattle.promises.specs.Runs.{Runs}
 use Rattle.promises.proofs.Runs.{stands, Counted, counted}
 

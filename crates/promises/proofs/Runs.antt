@@ -2,22 +2,21 @@
 -- are `run`'s, which is what these theorems speak of. Assumes nothing.
 use mathlib.Core.Path.{◌≡◌, refl, sym, ap, ◌∙◌, subst}
 use mathlib.Core.Bool.{Bool, true, false}
-use mathlib.Core.List.{List, [], ◌∷◌}
-use Prim.Native.Nat.{ℕ, zero, suc, ◌-◌, ◌≤◌, ◌<◌}
+use mathlib.Core.List.{List, ◌∷◌}
+use Prim.Native.Nat.{ℕ, zero, suc, ◌≤◌, ◌<◌}
 use native.Mathlib.Omega.{arith}
 use borrow.Author.Tests.{eq-eqb, ne_eqb, eqb-true, eqb-false}
 use lib.Dec.{eqb}
 use lib.ListN.{length}
 use Rattle.tape.specs.Instruction.{Code, code_of}
 use Rattle.tape.specs.Tape.{instructions}
-use Rattle.tape.specs.Steps.{steps_exposed}
 use Rattle.word.specs.Bytes.{total}
 use Rattle.tape.specs.Entries.{lengths_of, entry_at, exposed}
 use Rattle.tape.specs.Check.{check}
-use Rattle.tape.specs.Rules.{World, Machine, at, halted, stuck, step, left, place}
+use Rattle.tape.specs.Rules.{Machine, at, halted, stuck, place}
 use Rattle.tape.specs.declared.Checked.{Checked}
 use Rattle.tape.specs.declared.Checked.TheVariants.{Accepted, Refused as Faulty}
-use Rattle.tape.proofs.Accepted.{Program-of, accepted_is_program}
+use Rattle.tape.proofs.Accepted.{accepted_is_program}
 use Rattle.tape.proofs.Meaning.{cprogram}
 use Rattle.tape.proofs.Running.{Underway, underway, opening, standing}
 use Rattle.tape.proofs.Counted.{stands_done, stands_underway, total_steps}
@@ -25,7 +24,7 @@ use Rattle.tape.proofs.Alike.{Alike, both_at, both_halted, both_stuck, left_alik
 use Rattle.machine.specs.Run.{Result, begin, after, result_of, unless, admitted, run_by, run}
 use Rattle.machine.specs.declared.Ran.{Ran}
 use Rattle.machine.specs.declared.Ran.TheVariants.{Done, Stopped, Refused}
-use Rattle.promises.specs.Runs.{Runs, Turned, by_check, by_arguments, by_memory, goes_through, records_of, End, end_of}
+use Rattle.promises.specs.Runs.{Runs, Turned, by_check, by_arguments, by_memory, goes_through, records_of, end_of}
 
 -- ---- REFUSES EXACTLY: a run is refused under the listed conditions and no others, the first of them first, and then no byte changes
 never_refused : (c : Code) (k : Machine) (number place : ℕ) → (result_of c k).answer ≡ Refused number place → ⊥

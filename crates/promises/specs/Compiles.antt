@@ -8,7 +8,6 @@ use Rattle.tape.specs.Tape.{tape}
 use Rattle.tape.specs.Steps.{steps_exposed}
 use Rattle.translation.specs.Translate.{translate}
 use Rattle.translation.specs.Compile.{stages, first_of, compile}
-use Rattle.translation.specs.declared.Compiled.TheVariants.{Tape}
 
 -- the words of the records written
 abbrev pub tape_left : List ℕ → List ℕ → ℕ → List ℕ

@@ -1,5 +1,5 @@
 -- Records as a person lists them, by the kinds of 01's two tables: of a script table, and of a core tape. Assumes nothing: these are definitions.
-use Rattle.std.specs.Prelude.{ℕ, List}
+use Rattle.std.specs.Prelude.{ℕ}
 use Rattle.word.specs.Records.{rec}
 use Rattle.word.specs.declared.Record.{Record}
 

@@ -5,7 +5,7 @@ use Rattle.word.specs.Records.{rec, words_of}
 use Rattle.word.specs.declared.Record.{Record}
 use Rattle.translation.specs.Compile.{compile, case_of, values_of, Case, accepted, refusal}
 use Rattle.machine.specs.Run.{run, case_of as end_of, values_of as endValues, Case as End, done, stopped, refusal as turnedAway}
-use Rattle.promises.specs.Listing.{PROGRAM, ARRAY, FUNC, NUM, TRU, FLS, VAR, GET, LNOT, BIN, CALL, SKIP, SEQ, DEF, SET, PUT, FOR, IF, RETURN, lit, var, get, not, bin, call, def, set, put, for, end, ret}
+use Rattle.promises.specs.Listing.{PROGRAM, ARRAY, FUNC, NUM, TRU, VAR, LNOT, BIN, SKIP, SEQ, DEF, SET, PUT, FOR, IF, RETURN, lit, bin, call, def, for, end, ret}
 use Rattle.promises.specs.Swatches.{sames}
 
 -- ---- the compiler

@@ -5,7 +5,7 @@ use Rattle.word.specs.Bytes.{total}
 use Rattle.tape.specs.Instruction.{Code, code_of}
 use Rattle.tape.specs.Check.{check}
 use Rattle.tape.specs.declared.Checked.TheVariants.{Accepted, Refused as Faulty}
-use Rattle.tape.specs.Entries.{Entry, lengths_of, entry_at, exposed}
+use Rattle.tape.specs.Entries.{lengths_of, entry_at, exposed}
 use Rattle.tape.specs.Rules.{Machine, step, left}
 use Rattle.machine.specs.Run.{begin}
 use Rattle.machine.specs.declared.Ran.{Ran}

@@ -1,13 +1,13 @@
 -- The swatch cases that 01 marks with *, and three more: scripts, what they are run on, and what must come out. Assumes nothing: these are
 -- definitions.
-use Rattle.std.specs.Prelude.{ℕ, ◌-◌, ◌*◌, Bool, true, false, ◌&&◌, List, [], ◌∷◌, ◌++◌, length, take, replicate, eqb}
+use Rattle.std.specs.Prelude.{ℕ, ◌-◌, ◌*◌, Bool, true, false, ◌&&◌, List, [], ◌∷◌, ◌++◌, take, replicate, eqb}
 use Rattle.word.specs.Records.{words_of}
 use Rattle.word.specs.declared.Record.{Record}
 use Rattle.script.specs.Parse.{Parsed, parsed, refused, read_table}
 use Rattle.script.specs.Tree.{Program}
 use Rattle.script.specs.Plain.{plain}
 use Rattle.translation.specs.Compile.{Result, compile, case_of, values_of, Case, accepted, refusal}
-use Rattle.machine.specs.Run.{Result as Ended, run, case_of as end_of, values_of as endValues, Case as End, done, stopped, refusal as turnedAway}
+use Rattle.machine.specs.Run.{run, case_of as end_of, values_of as endValues, Case as End, done, stopped, refusal as turnedAway}
 use Rattle.promises.specs.Listing.{PROGRAM, ARRAY, FUNC, NUM, FLS, VAR, GET, BIN, CALL, SKIP, SEQ, DEF, SET, PUT, FOR, IF, RETURN, lit, var, not, bin, def, set, ret}
 
 pub record Swatch : Type 0 where

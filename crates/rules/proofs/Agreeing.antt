@@ -1,6 +1,6 @@
 -- Where the machine's slots agree with the rules' substitution and local memory: a parameter or a loop's slot stands in {σ}, a DEF'd one in the innermost
 -- frame of μ, and {σ} has no other. Assumes nothing.
-use mathlib.Core.Path.{◌≡◌, refl, ap}
+use mathlib.Core.Path.{◌≡◌, refl}
 use mathlib.Core.Bool.{Bool, true, false}
 use mathlib.Core.List.{List, [], ◌∷◌}
 use mathlib.Core.Option.{Option, none, some}

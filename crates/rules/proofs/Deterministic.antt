@@ -1,17 +1,16 @@
 -- A reduction is the one that the function gives, so there is at most one; and the rules stand at one configuration only after n counted reductions.
 -- Assumes nothing.
 use mathlib.Core.Path.{◌≡◌, refl, sym, ap, ◌∙◌, subst}
-use mathlib.Core.Bool.{Bool, true, false}
+use mathlib.Core.Bool.{Bool, false}
 use mathlib.Core.List.{List, [], ◌∷◌}
-use mathlib.Core.Option.{Option, none, some}
+use mathlib.Core.Option.{Option}
 use Prim.Native.Nat.{ℕ}
 use native.Mathlib.Nat.{le_of_eq}
 use borrow.Author.Tests.{lt-ltb, le-ltb, eq-eqb}
-use lib.Dec.{ltb, eqb}
-use lib.ListN.{length}
+use lib.Dec.{eqb}
 use Rattle.tape.specs.Rules.{World}
 use Rattle.rules.specs.Configurations.{Subst, Local, empty, Term, val, var, bare, get, not, bin, call, body, Terms, nil, arg, Work, skip, seq, def, set, put, for, added, vals, Fval, Configuration, at}
-use Rattle.rules.specs.Reduction.{Deed, Label, quiet, counts, Reduces, EXR-VAR, EXR-ARR-GET-EXPR, EXR-ARR-GET-VAL, EXR-UNOP-EXPR, EXR-UNOP-VAL, EXR-BINOP-L, EXR-BINOP-R, EXR-BINOP-VAL, EXR-SUBST-VAR, EXR-SUBST-NO-VAR, EXR-FN-EXPR, EXR-FN-CALL, EXR-SKIP-EXPR, EXR-SKIP-VAL, BODY, ReducesS, EXR-SEQ, EXR-SEQ-SKIP, EXR-DEF-EXPR, EXR-DEF-VAL, EXR-ASSIGN-EXPR, EXR-ASSIGN-VAL, EXR-ARR-ASSIGN-EXPR-L, EXR-ARR-ASSIGN-EXPR-R, EXR-ARR-ASSIGN-VAL, EXR-FOR, EXR-ADD-SUBST, EXR-FOR-BASE}
+use Rattle.rules.specs.Reduction.{Deed, Label, quiet, counts, Reduces, EXR-VAR, EXR-ARR-GET-EXPR, EXR-ARR-GET-VAL, EXR-UNOP-EXPR, EXR-UNOP-VAL, EXR-BINOP-L, EXR-BINOP-R, EXR-BINOP-VAL, EXR-SUBST-VAR, EXR-SUBST-NO-VAR, EXR-FN-EXPR, EXR-FN-CALL, EXR-SKIP-EXPR, EXR-SKIP-VAL, BODY, EXR-SEQ, EXR-SEQ-SKIP, EXR-DEF-EXPR, EXR-DEF-VAL, EXR-ASSIGN-EXPR, EXR-ASSIGN-VAL, EXR-ARR-ASSIGN-EXPR-L, EXR-ARR-ASSIGN-EXPR-R, EXR-ARR-ASSIGN-VAL, EXR-FOR, EXR-ADD-SUBST, EXR-FOR-BASE}
 use Rattle.rules.specs.Correspondence.{Reaches, here, quietly, counting}
 use Rattle.rules.proofs.Next.{Next, NextS, NextArgs, ready, within, within_s, first, later, onward, in_body, by_val, by_skip, from_local, local, from_subst, enter, leave, write, pass, add, applied, next, next_args, next_s}
 

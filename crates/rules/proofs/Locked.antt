@@ -7,7 +7,6 @@ use mathlib.Core.Option.{none, some}
 use Prim.Native.Nat.{ℕ, zero, suc, ◌+◌, ◌-◌, ◌≤◌, ◌<◌}
 use native.Mathlib.Nat.{zero-add}
 use native.Mathlib.Omega.{arith}
-use native.Mathlib.Decide.{ℕ_discrete}
 use borrow.Author.Tests.{lt-ltb, le-ltb}
 use lib.Dec.{ltb}
 use lib.ListN.{length}
@@ -18,13 +17,13 @@ use Rattle.tape.specs.Core.{CExpr, LIT, VAR, GET, NOT, BIN, CALL, CExprs, NONE, 
 use Rattle.tape.specs.Instruction.{Instruction, Code, for as for-record, end}
 use Rattle.tape.specs.Tape.{tape_e, tape_es, tape_s}
 use Rattle.tape.specs.Entries.{Entry}
-use Rattle.tape.specs.Rules.{World, Loop, Frame, Machine, at as machine, halted, tick, stored, one, two, past, pass, again, ending, back, exec, step, turn_for, turn_end, turn_loops, turn, is_free, quiet as free}
+use Rattle.tape.specs.Rules.{World, Loop, Frame, Machine, at as machine, tick, stored, one, two, past, pass, again, ending, back, exec, step, turn_for, turn_end, turn_loops, turn, is_free, quiet as free}
 use Rattle.tape.proofs.Meaning.{State, CFun, assign, cpasses, cvalue, cvalues, crun, cmeaning}
 use Rattle.tape.proofs.Sound.{arguments, after_s, SoundE, SoundEs, SoundS, SoundF}
 use Rattle.tape.proofs.Entering.{entry_of}
 use Rattle.tape.proofs.Follows.{onto, grab_all, past_s}
-use Rattle.rules.specs.Configurations.{Subst, Local, empty, bind, Term, val, var, body, Terms, nil, arg, Work, skip, for, Fval, vals, Configuration, at, load, loads, load_s, fval}
-use Rattle.rules.specs.Reduction.{Deed, reads, calls, passes, Label, quiet, counts, Reduces, EXR-VAR, EXR-ARR-GET-VAL, EXR-UNOP-VAL, EXR-BINOP-VAL, EXR-SUBST-VAR, EXR-SUBST-NO-VAR, EXR-FN-CALL, EXR-SKIP-VAL, EXR-SEQ-SKIP, EXR-DEF-VAL, EXR-ASSIGN-VAL, EXR-ARR-ASSIGN-VAL, EXR-FOR, EXR-ADD-SUBST, EXR-FOR-BASE}
+use Rattle.rules.specs.Configurations.{Subst, Local, empty, bind, Term, val, var, body, nil, skip, for, Fval, vals, Configuration, at, load, loads, load_s, fval}
+use Rattle.rules.specs.Reduction.{Deed, reads, calls, quiet, counts, Reduces, EXR-VAR, EXR-ARR-GET-VAL, EXR-UNOP-VAL, EXR-BINOP-VAL, EXR-SUBST-VAR, EXR-SUBST-NO-VAR, EXR-FN-CALL, EXR-SKIP-VAL, EXR-SEQ-SKIP, EXR-DEF-VAL, EXR-ASSIGN-VAL, EXR-ARR-ASSIGN-VAL, EXR-FOR, EXR-ADD-SUBST, EXR-FOR-BASE}
 use Rattle.rules.specs.Correspondence.{with1, with2, taken, passing, renewing, deed}
 use Rattle.rules.proofs.Agreeing.{Agree, Found, substituted, remembered, found, is_hidden, agree_def, agree_set, agree_out, agree_pass, agree_end, agree_begin}
 use Rattle.rules.proofs.Around.{Around, AroundArgs, AroundStmt, round_get, round_not, round_left, round_right, round_args, round_first, round_rest, round_body, round_result, round_seq, round_def, round_set, round_index, round_value}

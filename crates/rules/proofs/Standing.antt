@@ -12,10 +12,10 @@ use Rattle.tape.specs.Core.{CFunc, CProgram}
 use Rattle.tape.specs.Instruction.{Code, code_of}
 use Rattle.tape.specs.Tape.{instructions}
 use Rattle.tape.specs.Steps.{steps_exposed}
-use Rattle.tape.specs.Entries.{Entry, entries_of, lengths_of, entry_at, exposed}
+use Rattle.tape.specs.Entries.{Entry, entries_of, entry_at, exposed}
 use Rattle.tape.specs.Check.{check}
 use Rattle.tape.specs.declared.Checked.TheVariants.{Accepted}
-use Rattle.tape.specs.Rules.{World, Machine, at as machine, halted, tick, stored, back, step, stands}
+use Rattle.tape.specs.Rules.{World, Machine, at as machine, halted, tick, stored, back, stands}
 use Rattle.tape.proofs.Meaning.{CFun, cmeaning, cexposed, cnothing, cprogram}
 use Rattle.tape.proofs.Sound.{SoundFrom, the_last, one_more, params_at, Sound}
 use Rattle.tape.proofs.Settling.{stands_quiet, stands_here, stands_counting, stands_halted}
@@ -24,7 +24,7 @@ use Rattle.tape.proofs.Counted.{total_steps}
 use Rattle.tape.proofs.Entering.{entry_of, entries_fs, nowhere, last_of, tape_lengths, tape_entries, tape_count, tape_params, tape_exposed}
 use Rattle.tape.proofs.Accepted.{accepted_is_program}
 use Rattle.tape.proofs.Follows.{sound_some}
-use Rattle.rules.specs.Configurations.{Subst, Local, empty, Term, val, Fval, Configuration, at, fval, fval_at, exposed_body, beginning}
+use Rattle.rules.specs.Configurations.{Subst, Local, empty, Term, val, Fval, Configuration, at, fval, fval_at, exposed_body}
 use Rattle.rules.specs.Reduction.{Label, quiet, counts, Reduces, EXR-VAR, EXR-ARR-GET-EXPR, EXR-ARR-GET-VAL, EXR-UNOP-EXPR, EXR-UNOP-VAL, EXR-BINOP-L, EXR-BINOP-R, EXR-BINOP-VAL, EXR-SUBST-VAR, EXR-SUBST-NO-VAR, EXR-FN-EXPR, EXR-FN-CALL, EXR-SKIP-EXPR, EXR-SKIP-VAL, BODY, EXR-SEQ, EXR-SEQ-SKIP, EXR-DEF-EXPR, EXR-DEF-VAL, EXR-ASSIGN-EXPR, EXR-ASSIGN-VAL, EXR-ARR-ASSIGN-EXPR-L, EXR-ARR-ASSIGN-EXPR-R, EXR-ARR-ASSIGN-VAL, EXR-FOR, EXR-ADD-SUBST, EXR-FOR-BASE}
 use Rattle.rules.specs.Correspondence.{Reaches, here, quietly, counting, Corresponds, done, due, counter_of, StandsAt, FollowsRules}
 use Rattle.rules.proofs.Around.{nothing}

@@ -1,7 +1,7 @@
 -- 000's reduction rules, {Λ, Γ, μ, κ} e ⟶ {Λ, Γ', μ', κ'} e', each constructor under its rule's name; array declarations are left out (01). docs/RULES.md
 -- has the repairs that 01 makes and the readings R1 to R8 that the rules need to run at all. Assumes nothing: these are definitions.
 use Rattle.std.specs.Prelude.{ℕ, suc, ◌<◌, ◌≡◌, List, ◌∷◌, length}
-use Rattle.std.proofs.Math.Option.{Option, none, some}
+use Rattle.std.proofs.Math.Option.{none, some}
 use Rattle.word.specs.Value.{Op, op, flip}
 use Rattle.word.specs.Slots.{upd}
 use Rattle.word.specs.Bytes.{fetch}

@@ -24,7 +24,7 @@ use Rattle.script.specs.declared.Env.{Env}
 use Rattle.script.specs.declared.First.{First}
 use Rattle.scoping.specs.declared.scope.Slots.{Slots}
 use Rattle.script.proofs.Leading.{from}
-use Rattle.scoping.proofs.Past.{past_E, past_S}
+use Rattle.scoping.proofs.Past.{past_e, past_s}
 use Rattle.scoping.proofs.Seeking.{seek_expr, Halts, halts_stmt, halts_stmts, halts_funcs}
 use Rattle.scoping.proofs.Together.{Together, both_go, both_stop, go_on, go_after, go_to, go_as, go_first, onward_goes, onward_assoc, onward_after, enters, program_staged}
 
@@ -170,9 +170,9 @@ module _ (t : List ℕ) (v : Env) (few : v.slots ≤ 32) where
         let cond = scope_e (scope_of a) (at + 1) c in
         let e = w ∙ ap (λ (z : Walked (At Slots)). onward (onward z f) f) (enter_one t a at y (list_s s (list_s u rest)) (halts_stmt s (list_s u rest)) c on) ∙ ap (λ (z : Walked (At Slots)). onward z f) (onward_after cond _ f) ∙ onward_after cond _ f in
         let q : k + size_s u ≡ at + suc (size_e c + (size_s s + size_s u)) = omega arith in
-        let then = past_E t c (at + 1) on in
+        let then = past_e t c (at + 1) on in
         let first = stmt_goes s (left - 1) m a (list_s u rest) then (omega arith) i.1 (halts_stmt u rest) in
-        let other = past_S t s m then in
+        let other = past_s t s m then in
         let deep : depth_s u ≤ left - 1 = omega arith in
         go_to q
         (go_as e (ap (after cond) (close_same (names_of a) (scope_s (names_of a) m s) (λ n. scope_s n k u)))
@@ -195,7 +195,7 @@ module _ (t : List ℕ) (v : Env) (few : v.slots ≤ 32) where
         let turn = go_on (at + size_s s) (λ b. leave (walk (scoping t) t left b.at b.state)) (λ m. scope_s m at s) g (λ b. go_as (same _) refl (stmt_goes s left at b (list_ss ss rest) is deep i.0 (halts_stmts ss rest h))) in
         go_to q
         (go_as refl (sym (onward_assoc r (λ m. scope_s m at s) (λ m. scope_ss m (at + size_s s) ss)))
-        (stmts_go ss left (at + size_s s) rest leave (past_S t s at is) (omega arith) i.1 h turn same))
+        (stmts_go ss left (at + size_s s) rest leave (past_s t s at is) (omega arith) i.1 h turn same))
 
 -- ---- functions
 func_goes : (t : List ℕ) (v : Env) (m : Unit {0}) (f : Func) (at : ℕ) (fs : List Func) (next : ℕ → First) → Unit {0} → InFunc v f
@@ -206,7 +206,7 @@ func_goes t v m f at fs then k i is =
     let q : at + suc (size_s f.body) ≡ at + 1 + size_s f.body = omega arith in
     let few : f.params ≤ 32 = omega (arith, i.few) in
     let body = stmt_goes t (entered v (head_of f)) i.slots f.body 16 (at + 1) (parameters_of f.params) (list_funcs fs) is i.deep i.body (halts_funcs fs) in
-    rw q (rw (← (parameters_is f.params few)) (go_first then body), past_S t f.body (at + 1) is)
+    rw q (rw (← (parameters_is f.params few)) (go_first then body), past_s t f.body (at + 1) is)
 
 -- THE LAW: over a table that was read, the code's stage says what `scope_f` says of its tree's functions
 pub scoped_is : (t : List ℕ) → Words t → (p : Program) (i : ℕ) → read_table t ≡ parsed p i → scoped t ≡ over_program scope_f p

@@ -21,7 +21,7 @@ use Rattle.script.proofs.Beginning.{LikeS, stmt_like, part, reached, behind, as_
 
 -- the functions from the one at record `at` on
 pub data LikeFs (k : ℕ) : ℕ → List Func → List Func → Type 0 where
-  past_Fs : {at : ℕ} {fs gs : List Func} → k ≤ at → LikeFs k at fs gs
+  past_fs : {at : ℕ} {fs gs : List Func} → k ≤ at → LikeFs k at fs gs
   like_end : {at : ℕ} → LikeFs k at [] []
   like_func : {at : ℕ} {f g : Func} {fs gs : List Func} → f.params ≡ g.params → LikeS k (at + 1) f.body g.body
       → (at + size_f f ≤ k → f ≡ g) → LikeFs k (at + size_f f) fs gs → LikeFs k at (f ∷ fs) (g ∷ gs)
@@ -49,7 +49,7 @@ module _ {t u : List ℕ} {k : ℕ} (𝓐 : Alike k t u) where
       let a = part 𝓐 (stmt_kept 𝓐 16 outermost w (at + 1) l) p q in
       let z : i₁ ≡ at + suc (size_s s) = omega (arith, (stmt_read t w 16 outermost (at + 1) s i₁ p).ends) in
       let rest : LikeFs k i₁ fs₁ gs₁ =
-      behind 𝓐 (parse_funcs n (passed v h) u) i₁ j₁ a.end q₁ (λ m. past_Fs (omega arith)) (like i₁ a.within fs₁ gs₁ i₂ j₂ p₁) in
+      behind 𝓐 (parse_funcs n (passed v h) u) i₁ j₁ a.end q₁ (λ m. past_fs (omega arith)) (like i₁ a.within fs₁ gs₁ i₂ j₂ p₁) in
       let body = stmt_like 𝓐 w 16 outermost (at + 1) l s r i₁ j₁ p q in
       let same : i₁ ≤ k → func_of h s ≡ func_of h r = λ m. ap (func_of h) (a.same m) in
       as_both (LikeFs k at) e₂ f₂
@@ -64,7 +64,7 @@ module _ {t u : List ℕ} {k : ℕ} (𝓐 : Alike k t u) where
       let there = (first_from t at ((leads t at function_lawful v h).0 p).0).0 in
       let f₂ : at < k → behind_func u n v (at + 1) h ≡ parsed gs j =
       λ m. ap (behind_func u n v (at + 1)) (one_head (lead_same 𝓐 function v at l m) p q) ∙ f₁ in
-      reached 𝓐 at past_Fs (λ m. func_like n v at h (funcs_like n (passed v h)) (omega arith) fs gs i j e₁ (f₂ m))
+      reached 𝓐 at past_fs (λ m. func_like n v at h (funcs_like n (passed v h)) (omega arith) fs gs i j e₁ (f₂ m))
 
 -- ---- programs
 pub record LikeP (k : ℕ) (p q : Program) : Type 0 where

@@ -20,8 +20,8 @@ use Rattle.script.proofs.Stopping.{Alike, lead_same, Kept, reads, stops, expr_ke
 -- ---- trees at record `at` that are the same up to record k; a part is the same where it ends before that
 mutual
   pub data LikeE (k : ℕ) : ℕ → Expr → Expr → Type 0 where
-    past_E : {at : ℕ} {x y : Expr} → k ≤ at → LikeE k at x y
-    same_E : {at : ℕ} {x : Expr} → LikeE k at x x
+    past_e : {at : ℕ} {x y : Expr} → k ≤ at → LikeE k at x y
+    same_e_lem : {at : ℕ} {x : Expr} → LikeE k at x x
     like_get : {at a : ℕ} {x y : Expr} → LikeE k (at + 1) x y → LikeE k at (get a x) (get a y)
     like_lnot : {at : ℕ} {x y : Expr} → LikeE k (at + 1) x y → LikeE k at (lnot x) (lnot y)
     like_bnot : {at : ℕ} {x y : Expr} → LikeE k (at + 1) x y → LikeE k at (bnot x) (bnot y)
@@ -30,15 +30,15 @@ mutual
     like_call : {at f : ℕ} {xs ys : Exprs} → LikeEs k (at + 1) xs ys → LikeE k at (call f xs) (call f ys)
 
   pub data LikeEs (k : ℕ) : ℕ → Exprs → Exprs → Type 0 where
-    past_Es : {at : ℕ} {xs ys : Exprs} → k ≤ at → LikeEs k at xs ys
+    past_es : {at : ℕ} {xs ys : Exprs} → k ≤ at → LikeEs k at xs ys
     like_none : {at : ℕ} → LikeEs k at none none
     like_more : {at : ℕ} {x y : Expr} {xs ys : Exprs} → LikeE k at x y → (at + size_e x ≤ k → x ≡ y) → LikeEs k (at + size_e x) xs ys
         → LikeEs k at (more x xs) (more y ys)
 
 mutual
   pub data LikeS (k : ℕ) : ℕ → Stmt → Stmt → Type 0 where
-    past_S : {at : ℕ} {x y : Stmt} → k ≤ at → LikeS k at x y
-    same_S : {at : ℕ} {x : Stmt} → LikeS k at x x
+    past_s : {at : ℕ} {x y : Stmt} → k ≤ at → LikeS k at x y
+    same_s_lem : {at : ℕ} {x : Stmt} → LikeS k at x x
     like_seq : {at : ℕ} {xs ys : Stmts} → LikeSs k (at + 1) xs ys → LikeS k at (seq xs) (seq ys)
     like_def : {at x : ℕ} {e d : Expr} → LikeE k (at + 1) e d → LikeS k at (def x e) (def x d)
     like_set : {at x : ℕ} {e d : Expr} → LikeE k (at + 1) e d → LikeS k at (set x e) (set x d)
@@ -50,7 +50,7 @@ mutual
     like_return : {at : ℕ} {e d : Expr} → LikeE k (at + 1) e d → LikeS k at (return e) (return d)
 
   pub data LikeSs (k : ℕ) : ℕ → Stmts → Stmts → Type 0 where
-    past_Ss : {at : ℕ} {xs ys : Stmts} → k ≤ at → LikeSs k at xs ys
+    past_ss : {at : ℕ} {xs ys : Stmts} → k ≤ at → LikeSs k at xs ys
     like_done : {at : ℕ} → LikeSs k at done done
     like_next : {at : ℕ} {x y : Stmt} {xs ys : Stmts} → LikeS k at x y → (at + size_s x ≤ k → x ≡ y) → LikeSs k (at + size_s x) xs ys
         → LikeSs k at (next x xs) (next y ys)
@@ -89,8 +89,8 @@ module _ {t u : List ℕ} {k : ℕ} (𝓐 : Alike k t u) where
 
   pub part : {A : Type 0} {at : ℕ} {p q : Parsed A} {a b : A} {i j : ℕ} → Kept 𝓐 at p q → p ≡ parsed a i → q ≡ parsed b j → Part i a j b
   part {a} {b} {i} {j} (reads {a = c} {j = l} m n e) g h =
-      let l-is : l ≡ i = cc in
-      record { within = rw l-is at n; same = λ w. let z = e (rw l-is w) in cc; end = λ w. let z = e (rw l-is w) in cc }
+      let l_is : l ≡ i = cc in
+      record { within = rw l_is at n; same = λ w. let z = e (rw l_is w) in cc; end = λ w. let z = e (rw l_is w) in cc }
   part (stops m e) g h = absurd (never g)
 
   -- past k, or before it
@@ -127,16 +127,16 @@ module _ {t u : List ℕ} {k : ℕ} (𝓐 : Alike k t u) where
           let a = part (expr_kept 𝓐 left v at l) p q in
           let z = (expr_read t v left at x i₁ p).ends in
           let rest : LikeEs k i₁ xs₁ ys₁ =
-          behind (parts (parse_e left v u) n) i₁ j₁ a.end q₁ (λ m. past_Es (omega arith)) (parts_like n i₁ a.within xs₁ ys₁ i₂ j₂ p₁) in
+          behind (parts (parse_e left v u) n) i₁ j₁ a.end q₁ (λ m. past_es (omega arith)) (parts_like n i₁ a.within xs₁ ys₁ i₂ j₂ p₁) in
           as_both (LikeEs k at) e₂ f₂ (more_at z (like at l x y i₁ j₁ p q) a.same rest)
 
       build_like : (at : ℕ) → at + 1 ≤ records t → (h : HeadE) (x y : Expr) (i j : ℕ)
           → build_e (parse_e left v t) v (at + 1) h ≡ parsed x i → build_e (parse_e left v u) v (at + 1) h ≡ parsed y j → LikeE k at x y
       unfolding build_e
-      build_like at l (NUM n) x y i j e f = as_both (LikeE k at) e f same_E
-      build_like at l TRUE x y i j e f = as_both (LikeE k at) e f same_E
-      build_like at l FALSE x y i j e f = as_both (LikeE k at) e f same_E
-      build_like at l (VAR n) x y i j e f = as_both (LikeE k at) e f same_E
+      build_like at l (NUM n) x y i j e f = as_both (LikeE k at) e f same_e_lem
+      build_like at l TRUE x y i j e f = as_both (LikeE k at) e f same_e_lem
+      build_like at l FALSE x y i j e f = as_both (LikeE k at) e f same_e_lem
+      build_like at l (VAR n) x y i j e f = as_both (LikeE k at) e f same_e_lem
       build_like at l (GET a) x y i j e f =
           let (x₁, i₁, p, e₁) = then_parsed (parse_e left v t (at + 1)) e in
           let (y₁, j₁, q, f₁) = then_parsed (parse_e left v u (at + 1)) f in
@@ -156,7 +156,7 @@ module _ {t u : List ℕ} {k : ℕ} (𝓐 : Alike k t u) where
           let (y₂, j₂, q₁, f₂) = then_parsed (parse_e left v u j₁) f₁ in
           let a = part (expr_kept 𝓐 left v (at + 1) l) p q in
           let z = (expr_read t v left (at + 1) x₁ i₁ p).ends in
-          let rest : LikeE k i₁ x₂ y₂ = behind (parse_e left v u) i₁ j₁ a.end q₁ (λ m. past_E (omega arith)) (like i₁ a.within x₂ y₂ i₂ j₂ p₁) in
+          let rest : LikeE k i₁ x₂ y₂ = behind (parse_e left v u) i₁ j₁ a.end q₁ (λ m. past_e (omega arith)) (like i₁ a.within x₂ y₂ i₂ j₂ p₁) in
           as_both (LikeE k at) e₂ f₂ (bin_at z (like (at + 1) l x₁ y₁ i₁ j₁ p q) a.same rest)
       build_like at l (CALL g) x y i j e f =
           let n = get_or v.params g 0 in
@@ -173,7 +173,7 @@ module _ {t u : List ℕ} {k : ℕ} (𝓐 : Alike k t u) where
         let there = (first_from t at ((leads t at expression_lawful v h).0 p).0).0 in
         let f₂ : at < k → build_e (parse_e left v u) v (at + 1) h ≡ parsed y j =
         λ m. ap (build_e (parse_e left v u) v (at + 1)) (one_head (lead_same 𝓐 expression v at l m) p q) ∙ f₁ in
-        reached at past_E (λ m. build_like left (expr_like left) at (omega arith) h x y i j e₁ (f₂ m))
+        reached at past_e (λ m. build_like left (expr_like left) at (omega arith) h x y i j e₁ (f₂ m))
 
     -- ---- statements
     abbrev LikesS : ℕ → Nest → Type 0
@@ -192,7 +192,7 @@ module _ {t u : List ℕ} {k : ℕ} (𝓐 : Alike k t u) where
         let a = part (stmt_kept 𝓐 left n v at l) p q in
         let z = (stmt_read t v left n at x i₁ p).ends in
         let rest : LikeSs k i₁ xs₁ ys₁ =
-        behind (sequence (parse_s left n v u) m) i₁ j₁ a.end q₁ (λ o. past_Ss (omega arith))
+        behind (sequence (parse_s left n v u) m) i₁ j₁ a.end q₁ (λ o. past_ss (omega arith))
         (sequence_like left n like m i₁ a.within xs₁ ys₁ i₂ j₂ p₁) in
         as_both (LikeSs k at) e₂ f₂ (next_at z (like at l x y i₁ j₁ p q) a.same rest)
 
@@ -204,7 +204,7 @@ module _ {t u : List ℕ} {k : ℕ} (𝓐 : Alike k t u) where
           → build_s (parse_e 16 v t) (parse_s left (inside n h) v t) (at + 1) h ≡ parsed x i
           → build_s (parse_e 16 v u) (parse_s left (inside n h) v u) (at + 1) h ≡ parsed y j → LikeS k at x y
       unfolding build_s
-      stmt_build SKIP like x y i j e f = as_both (LikeS k at) e f same_S
+      stmt_build SKIP like x y i j e f = as_both (LikeS k at) e f same_s_lem
       stmt_build (SEQ m) like x y i j e f =
           let s = inside n (SEQ m) in
           let (xs, i₁, p, e₁) = then_parsed (sequence (parse_s left s v t) m (at + 1)) e in
@@ -225,7 +225,7 @@ module _ {t u : List ℕ} {k : ℕ} (𝓐 : Alike k t u) where
           let (y₂, j₂, q₁, f₂) = then_parsed (parse_e 16 v u j₁) f₁ in
           let a = part (expr_kept 𝓐 16 v (at + 1) l) p q in
           let z = (expr_read t v 16 (at + 1) x₁ i₁ p).ends in
-          let rest : LikeE k i₁ x₂ y₂ = behind (parse_e 16 v u) i₁ j₁ a.end q₁ (λ m. past_E (omega arith)) (expr_like 16 i₁ a.within x₂ y₂ i₂ j₂ p₁) in
+          let rest : LikeE k i₁ x₂ y₂ = behind (parse_e 16 v u) i₁ j₁ a.end q₁ (λ m. past_e (omega arith)) (expr_like 16 i₁ a.within x₂ y₂ i₂ j₂ p₁) in
           as_both (LikeS k at) e₂ f₂ (put_at z (whole_like x₁ y₁ i₁ j₁ p q) a.same rest)
       stmt_build (FOR m lo hi) like x y i j e f =
           let s = inside n (FOR m lo hi) in
@@ -245,11 +245,11 @@ module _ {t u : List ℕ} {k : ℕ} (𝓐 : Alike k t u) where
           let z₁ = (stmt_read t v left s i₁ x₂ i₂ p₁).ends in
           let first = whole_like x₁ y₁ i₁ j₁ p q in
           let far : k < i₁ → LikeS k at (if x₁ x₂ x₃) (if y₁ y₂ y₃) =
-          λ m. if_at z z₁ first a.same (past_S (omega arith)) (λ o. absurd (omega arith)) (past_S (omega arith)) in
+          λ m. if_at z z₁ first a.same (past_s (omega arith)) (λ o. absurd (omega arith)) (past_s (omega arith)) in
           let near : parse_s left s v u i₁ ≡ parsed y₂ j₂ → LikeS k at (if x₁ x₂ x₃) (if y₁ y₂ y₃) =
           λ q₃.
           let b = part (stmt_kept 𝓐 left s v i₁ a.within) p₁ q₃ in
-          let rest : LikeS k i₂ x₃ y₃ = behind (parse_s left s v u) i₂ j₂ b.end q₂ (λ m. past_S (omega arith)) (like i₂ b.within x₃ y₃ i₃ j₃ p₂) in
+          let rest : LikeS k i₂ x₃ y₃ = behind (parse_s left s v u) i₂ j₂ b.end q₂ (λ m. past_s (omega arith)) (like i₂ b.within x₃ y₃ i₃ j₃ p₂) in
           if_at z z₁ first a.same (like i₁ a.within x₂ y₂ i₂ j₂ p₁ q₃) b.same rest in
           as_both (LikeS k at) e₃ f₃ (behind (parse_s left s v u) i₁ j₁ a.end q₁ far near)
       stmt_build RETURN like x y i j e f =
@@ -261,12 +261,12 @@ module _ {t u : List ℕ} {k : ℕ} (𝓐 : Alike k t u) where
     unfolding parse_s enter_s
     stmt_like zero n at l x y i j e f = absurd (deep_never at (lead statement v t at) e)
     stmt_like (suc left) n at l x y i j e f =
-        let of-t : Nest → ℕ → Parsed Stmt = λ m o. parse_s left m v t o in
-        let of-u : Nest → ℕ → Parsed Stmt = λ m o. parse_s left m v u o in
-        let (h, p, e₁) = node_parsed (enter_s (parse_e 16 v t) of-t n at) (λ m o. refl) (lead statement v t at) e in
-        let (g, q, f₁) = node_parsed (enter_s (parse_e 16 v u) of-u n at) (λ m o. refl) (lead statement v u at) f in
+        let of_t : Nest → ℕ → Parsed Stmt = λ m o. parse_s left m v t o in
+        let of_u : Nest → ℕ → Parsed Stmt = λ m o. parse_s left m v u o in
+        let (h, p, e₁) = node_parsed (enter_s (parse_e 16 v t) of_t n at) (λ m o. refl) (lead statement v t at) e in
+        let (g, q, f₁) = node_parsed (enter_s (parse_e 16 v u) of_u n at) (λ m o. refl) (lead statement v u at) f in
         let there = (first_from t at ((leads t at statement_lawful v h).0 p).0).0 in
         let e₂ = (nested_parsed (nests n h) at _ e₁).1 in
-        let f₂ : at < k → enter_s (parse_e 16 v u) of-u n at (node h) ≡ parsed y j =
-        λ m. ap (λ (z : HeadS). enter_s (parse_e 16 v u) of-u n at (node z)) (one_head (lead_same 𝓐 statement v at l m) p q) ∙ f₁ in
-        reached at past_S (λ m. stmt_build left n at (omega arith) h (stmt_like left (inside n h)) x y i j e₂ (nested_parsed (nests n h) at _ (f₂ m)).1)
+        let f₂ : at < k → enter_s (parse_e 16 v u) of_u n at (node h) ≡ parsed y j =
+        λ m. ap (λ (z : HeadS). enter_s (parse_e 16 v u) of_u n at (node z)) (one_head (lead_same 𝓐 statement v at l m) p q) ∙ f₁ in
+        reached at past_s (λ m. stmt_build left n at (omega arith) h (stmt_like left (inside n h)) x y i j e₂ (nested_parsed (nests n h) at _ (f₂ m)).1)

@@ -11,8 +11,8 @@ use Rattle.script.specs.Scope.{Names, readable, settable, scope_e, scope_es, dec
 use Rattle.script.specs.Written.{listing, Within}
 use Rattle.script.specs.declared.First.TheVariants.{Fault}
 use Rattle.script.proofs.Firsts.{not_clean, not_goes, or_from, after_from, onward_from, refuse_from, close_stops, ended_stops, or_like, after_like, onward_like, refuse_like, close_like, ended_like}
-use Rattle.script.proofs.Beginning.{LikeE, past_E, same_E, like_get, like_lnot, like_bnot, like_bin, like_call, LikeEs, past_Es, like_none, like_more, LikeS, past_S, same_S, like_seq, like_def, like_set, like_put, like_for, like_if, like_return, LikeSs, past_Ss, like_done, like_next}
-use Rattle.script.proofs.Agreeing.{LikeFs, past_Fs, like_end, like_func, begin_alike}
+use Rattle.script.proofs.Beginning.{LikeE, past_e, same_e_lem, like_get, like_lnot, like_bnot, like_bin, like_call, LikeEs, past_es, like_none, like_more, LikeS, past_s, same_s_lem, like_seq, like_def, like_set, like_put, like_for, like_if, like_return, LikeSs, past_ss, like_done, like_next}
+use Rattle.script.proofs.Agreeing.{LikeFs, past_fs, like_end, like_func, begin_alike}
 
 module _ {number place : ℕ} where
   -- ---- a fault lies in the tree that has it
@@ -82,8 +82,8 @@ module _ {number place : ℕ} where
       unfolding scope_e
 
       scope_e_like : {at : ℕ} {x y : Expr} → LikeE k at x y → (S : Scope) → scope_e S at x ≡ Fault number place → scope_e S at y ≡ Fault number place
-      scope_e_like (past_E {at} {x} l) S e = absurd (omega (arith, scope_e_from x S at k l e))
-      scope_e_like same_E S e = e
+      scope_e_like (past_e {at} {x} l) S e = absurd (omega (arith, scope_e_from x S at k l e))
+      scope_e_like same_e_lem S e = e
       scope_e_like (like_get h) S e = scope_e_like h S e
       scope_e_like (like_lnot h) S e = scope_e_like h S e
       scope_e_like (like_bnot h) S e = scope_e_like h S e
@@ -95,7 +95,7 @@ module _ {number place : ℕ} where
       scope_e_like (like_call h) S e = scope_es_like h S e
 
       scope_es_like : {at : ℕ} {xs ys : Exprs} → LikeEs k at xs ys → (S : Scope) → scope_es S at xs ≡ Fault number place → scope_es S at ys ≡ Fault number place
-      scope_es_like (past_Es {at} {xs} l) S e = absurd (omega (arith, scope_es_from xs S at k l e))
+      scope_es_like (past_es {at} {xs} l) S e = absurd (omega (arith, scope_es_from xs S at k l e))
       scope_es_like like_none S e = e
       scope_es_like (like_more {at} {x} {xs = xs} h same t) S e =
           or_like (scope_e S at x) (λ f. scope_e_like h S f)
@@ -127,8 +127,8 @@ module _ {number place : ℕ} where
       unfolding scope_s
 
       scope_s_like : {at : ℕ} {x y : Stmt} → LikeS k at x y → (N : Names) → scope_s N at x ≡ stops number place → scope_s N at y ≡ stops number place
-      scope_s_like (past_S {at} {x} l) N e = absurd (omega (arith, scope_s_from x N at k l e))
-      scope_s_like same_S N e = e
+      scope_s_like (past_s {at} {x} l) N e = absurd (omega (arith, scope_s_from x N at k l e))
+      scope_s_like same_s_lem N e = e
       scope_s_like (like_seq h) N e = scope_ss_like h N e
       scope_s_like (like_def {at} {x} {e = y} h) N e =
           refuse_like (N.declared x) 8 at (after_like (scope_e N.seen (at + 1) y) (scope_e_like h N.seen) (λ c f. not_goes f)) e
@@ -152,7 +152,7 @@ module _ {number place : ℕ} where
       scope_s_like (like_return {at} {e = y} h) N e = after_like (scope_e N.seen (at + 1) y) (scope_e_like h N.seen) (λ c f. not_goes f) e
 
       scope_ss_like : {at : ℕ} {xs ys : Stmts} → LikeSs k at xs ys → (N : Names) → scope_ss N at xs ≡ stops number place → scope_ss N at ys ≡ stops number place
-      scope_ss_like (past_Ss {at} {xs} l) N e = absurd (omega (arith, scope_ss_from xs N at k l e))
+      scope_ss_like (past_ss {at} {xs} l) N e = absurd (omega (arith, scope_ss_from xs N at k l e))
       scope_ss_like like_done N e = e
       scope_ss_like (like_next {at} {x} {xs = xs} h same t) N e =
           onward_like (scope_s N at x) (λ f. scope_s_like h N f)
@@ -173,7 +173,7 @@ module _ {number place : ℕ} where
   funcs_like : {k at : ℕ} {fs gs : List Func} → place < k → LikeFs k at fs gs
       → each_func scope_f at fs ≡ Fault number place → each_func scope_f at gs ≡ Fault number place
   unfolding each_func scope_f
-  funcs_like {k} m (past_Fs {at} {fs} l) e = absurd (omega (arith, funcs_from fs at k l e))
+  funcs_like {k} m (past_fs {at} {fs} l) e = absurd (omega (arith, funcs_from fs at k l e))
   funcs_like m like_end e = e
   funcs_like m (like_func {at} {f} {g} {fs} {gs} params body same rest) e =
       or_like (scope_f at f)

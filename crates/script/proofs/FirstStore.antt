@@ -10,8 +10,8 @@ use Rattle.script.specs.Stores.{store_s, store_ss, helpers, stores}
 use Rattle.script.specs.Written.{listing, Within}
 use Rattle.script.specs.declared.First.TheVariants.{Fault}
 use Rattle.script.proofs.Firsts.{not_clean, or_from, or_like}
-use Rattle.script.proofs.Beginning.{LikeS, past_S, same_S, like_seq, like_def, like_set, like_put, like_for, like_if, like_return, LikeSs, past_Ss, like_done, like_next}
-use Rattle.script.proofs.Agreeing.{LikeFs, past_Fs, like_end, like_func, begin_alike}
+use Rattle.script.proofs.Beginning.{LikeS, past_s, same_s_lem, like_seq, like_def, like_set, like_put, like_for, like_if, like_return, LikeSs, past_ss, like_done, like_next}
+use Rattle.script.proofs.Agreeing.{LikeFs, past_fs, like_end, like_func, begin_alike}
 
 module _ {number place : ℕ} where
   -- ---- the fault lies in the tree that has it
@@ -47,8 +47,8 @@ module _ {number place : ℕ} where
       unfolding store_s
 
       store_like : {at : ℕ} {x y : Stmt} → LikeS k at x y → store_s at x ≡ Fault number place → store_s at y ≡ Fault number place
-      store_like (past_S {at} {x} l) e = absurd (omega (arith, store_from x at k l e))
-      store_like same_S e = e
+      store_like (past_s {at} {x} l) e = absurd (omega (arith, store_from x at k l e))
+      store_like same_s_lem e = e
       store_like (like_seq h) e = stores_like h e
       store_like (like_def h) e = not_clean e
       store_like (like_set h) e = not_clean e
@@ -67,7 +67,7 @@ module _ {number place : ℕ} where
       store_like (like_return h) e = not_clean e
 
       stores_like : {at : ℕ} {xs ys : Stmts} → LikeSs k at xs ys → store_ss at xs ≡ Fault number place → store_ss at ys ≡ Fault number place
-      stores_like (past_Ss {at} {xs} l) e = absurd (omega (arith, stores_from xs at k l e))
+      stores_like (past_ss {at} {xs} l) e = absurd (omega (arith, stores_from xs at k l e))
       stores_like like_done e = e
       stores_like (like_next {at} {x} {y} {xs} {ys} h same t) e =
           or_like (store_s at x) (λ o. store_like h o)
@@ -93,7 +93,7 @@ module _ {number place : ℕ} where
 
     helpers_like : {at : ℕ} {fs gs : List Func} → LikeFs k at fs gs → length fs ≡ length gs
         → helpers at fs ≡ Fault number place → helpers at gs ≡ Fault number place
-    helpers_like (past_Fs {at} {fs} l) n e = absurd (omega (arith, helpers_from fs at k l e))
+    helpers_like (past_fs {at} {fs} l) n e = absurd (omega (arith, helpers_from fs at k l e))
     helpers_like like_end n e = e
     helpers_like (like_func {at} {f} {g} {fs} {gs} params body same rest) n e =
         let n₁ : length fs ≡ length gs = omega arith in

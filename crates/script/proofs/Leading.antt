@@ -22,59 +22,59 @@ pub record Lawful {A : Type 0} (c : Class A) : Type 0 where
   pub again : (h : A) → c.read (c.write h) ≡ h
   pub kind : (h : A) → c.due (c.write h).kind ≡ true
 
-again_E : (h : HeadE) → read_e (write_e h) ≡ h
+again_e : (h : HeadE) → read_e (write_e h) ≡ h
 unfolding read_e write_e
-again_E (NUM v) = refl
-again_E TRUE = refl
-again_E FALSE = refl
-again_E (VAR x) = refl
-again_E (GET a) = refl
-again_E LNOT = refl
-again_E BNOT = refl
-again_E (BIN o) = refl
-again_E (CALL f) = refl
+again_e (NUM v) = refl
+again_e TRUE = refl
+again_e FALSE = refl
+again_e (VAR x) = refl
+again_e (GET a) = refl
+again_e LNOT = refl
+again_e BNOT = refl
+again_e (BIN o) = refl
+again_e (CALL f) = refl
 
-again_S : (h : HeadS) → read_s (write_s h) ≡ h
+again_s : (h : HeadS) → read_s (write_s h) ≡ h
 unfolding read_s write_s
-again_S SKIP = refl
-again_S (SEQ n) = refl
-again_S (DEF x) = refl
-again_S (SET x) = refl
-again_S (PUT a) = refl
-again_S (FOR x q r) = refl
-again_S IF = refl
-again_S RETURN = refl
+again_s SKIP = refl
+again_s (SEQ n) = refl
+again_s (DEF x) = refl
+again_s (SET x) = refl
+again_s (PUT a) = refl
+again_s (FOR x q r) = refl
+again_s IF = refl
+again_s RETURN = refl
 
-kind_E : (h : HeadE) → expression.due (write_e h).kind ≡ true
+kind_e : (h : HeadE) → expression.due (write_e h).kind ≡ true
 unfolding expression write_e
-kind_E (NUM v) = refl
-kind_E TRUE = refl
-kind_E FALSE = refl
-kind_E (VAR x) = refl
-kind_E (GET a) = refl
-kind_E LNOT = refl
-kind_E BNOT = refl
-kind_E (BIN o) = refl
-kind_E (CALL f) = refl
+kind_e (NUM v) = refl
+kind_e TRUE = refl
+kind_e FALSE = refl
+kind_e (VAR x) = refl
+kind_e (GET a) = refl
+kind_e LNOT = refl
+kind_e BNOT = refl
+kind_e (BIN o) = refl
+kind_e (CALL f) = refl
 
-kind_S : (h : HeadS) → statement.due (write_s h).kind ≡ true
+kind_s : (h : HeadS) → statement.due (write_s h).kind ≡ true
 unfolding statement write_s
-kind_S SKIP = refl
-kind_S (SEQ n) = refl
-kind_S (DEF x) = refl
-kind_S (SET x) = refl
-kind_S (PUT a) = refl
-kind_S (FOR x q r) = refl
-kind_S IF = refl
-kind_S RETURN = refl
+kind_s SKIP = refl
+kind_s (SEQ n) = refl
+kind_s (DEF x) = refl
+kind_s (SET x) = refl
+kind_s (PUT a) = refl
+kind_s (FOR x q r) = refl
+kind_s IF = refl
+kind_s RETURN = refl
 
 pub expression_lawful : Lawful expression
 unfolding expression
-expression_lawful = record { again = again_E; kind = kind_E }
+expression_lawful = record { again = again_e; kind = kind_e }
 
 pub statement_lawful : Lawful statement
 unfolding statement
-statement_lawful = record { again = again_S; kind = kind_S }
+statement_lawful = record { again = again_s; kind = kind_s }
 
 pub program_lawful : Lawful program
 unfolding program

@@ -201,13 +201,13 @@ module _ {t u : List ℕ} (number place : ℕ) (𝓐 : Alike (suc place) t u) wh
   wholly_kept : {p q : Parsed Program} → Kept 𝓐 0 p q → wholly (records t) p ≡ refused number place → wholly (records u) q ≡ refused number place
   unfolding wholly
   wholly_kept (stops {place = i} l e) h =
-      let i-is : i ≡ place = cc in
+      let i_is : i ≡ place = cc in
       rw (e (omega arith)) h
   wholly_kept {q} (reads {a} {j} l m e) h = by (ltb j (records t)) refl h
     where
       by : (b : Bool) → ltb j (records t) ≡ b → cond b (refused 6 j) (parsed a j) ≡ refused number place → wholly (records u) q ≡ refused number place
       by true b h =
-          let j-is : j ≡ place = cc in
+          let j_is : j ≡ place = cc in
           let there : j < records u = omega (arith, ltb-true j (records t) b, 𝓐.many) in
           rw (e (omega arith), lt-ltb j (records u) there) h
       by false b h = absurd (clash h)

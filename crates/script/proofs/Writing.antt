@@ -24,11 +24,11 @@ module _ (t : List ℕ) (v : Env) where
   Reads p x end rest = (p ≡ parsed x end) × (from t end ≡ rest)
 
   -- ---- expressions
-  head_E : (h : HeadE) (left at : ℕ) {rest : List Record} → from t at ≡ write_e h ∷ rest → range_e v h ≡ true → 1 ≤ left
+  head_e_lem : (h : HeadE) (left at : ℕ) {rest : List Record} → from t at ≡ write_e h ∷ rest → range_e v h ≡ true → 1 ≤ left
       → (parse_e left v t at ≡ build_e (parse_e (pred left) v t) v (at + 1) h) × (from t (at + 1) ≡ rest)
   unfolding parse_e enter_e expression
-  head_E h zero at is range some = absurd (omega arith)
-  head_E h (suc left) at is range some =
+  head_e_lem h zero at is range some = absurd (omega arith)
+  head_e_lem h (suc left) at is range some =
       let (q, on) = leads_on t at expression_lawful v h is range in
       (rw q refl, on)
 
@@ -41,30 +41,30 @@ module _ (t : List ℕ) (v : Env) where
 
     pub expr_written : (x : Expr) (left at end : ℕ) {rest : List Record} → from t at ≡ list_e x rest → depth_e x ≤ left → InE v x → end ≡ at + size_e x
         → Reads (parse_e left v t at) x end rest
-    expr_written (num n) left at end is d i e = leaf e (head_E (NUM n) left at is refl d)
-    expr_written tru left at end is d i e = leaf e (head_E TRUE left at is refl d)
-    expr_written fls left at end is d i e = leaf e (head_E FALSE left at is refl d)
-    expr_written (var x) left at end is d i e = leaf e (head_E (VAR x) left at is (lt-ltb x v.slots i) d)
+    expr_written (num n) left at end is d i e = leaf e (head_e_lem (NUM n) left at is refl d)
+    expr_written tru left at end is d i e = leaf e (head_e_lem TRUE left at is refl d)
+    expr_written fls left at end is d i e = leaf e (head_e_lem FALSE left at is refl d)
+    expr_written (var x) left at end is d i e = leaf e (head_e_lem (VAR x) left at is (lt-ltb x v.slots i) d)
     expr_written (get a x) left at end is d i e =
-        let (p, on) = head_E (GET a) left at is (lt-ltb a v.arrays i.0) (omega arith) in
+        let (p, on) = head_e_lem (GET a) left at is (lt-ltb a v.arrays i.0) (omega arith) in
         let (q, rest) = expr_written x (pred left) (at + 1) end on (omega arith) i.1 (omega arith) in
         (p ∙ rw q refl, rest)
     expr_written (lnot x) left at end is d i e =
-        let (p, on) = head_E LNOT left at is refl (omega arith) in
+        let (p, on) = head_e_lem LNOT left at is refl (omega arith) in
         let (q, rest) = expr_written x (pred left) (at + 1) end on (omega arith) i (omega arith) in
         (p ∙ rw q refl, rest)
     expr_written (bnot x) left at end is d i e =
-        let (p, on) = head_E BNOT left at is refl (omega arith) in
+        let (p, on) = head_e_lem BNOT left at is refl (omega arith) in
         let (q, rest) = expr_written x (pred left) (at + 1) end on (omega arith) i (omega arith) in
         (p ∙ rw q refl, rest)
     expr_written (bin o l r) left at end is d i e =
         let range = both (le-leb 1 (code o) (code_range o).0) (le-leb (code o) 15 (code_range o).1) in
-        let (p, on) = head_E (BIN (code o)) left at is range (omega arith) in
+        let (p, on) = head_e_lem (BIN (code o)) left at is range (omega arith) in
         let (q, on₁) = expr_written l (pred left) (at + 1) (at + 1 + size_e l) on (omega arith) i.0 refl in
         let (q₁, rest) = expr_written r (pred left) (at + 1 + size_e l) end on₁ (omega arith) i.1 (omega arith) in
         (p ∙ rw (q, q₁, op_of_code o) refl, rest)
     expr_written (call f xs) left at end is d i e =
-        let (p, on) = head_E (CALL f) left at is (lt-ltb f v.func i.0) (omega arith) in
+        let (p, on) = head_e_lem (CALL f) left at is (lt-ltb f v.func i.0) (omega arith) in
         let (q, rest) = exprs_written xs (pred left) (at + 1) end on (omega arith) i.2 (omega arith) in
         (p ∙ rw (← i.1, q) refl, rest)
 
@@ -79,11 +79,11 @@ module _ (t : List ℕ) (v : Env) where
         (rw (q, q₁) refl, rest)
 
   -- ---- statements
-  head_S : (h : HeadS) (left : ℕ) (n : Nest) (at : ℕ) {rest : List Record} → from t at ≡ write_s h ∷ rest → range_s v h ≡ true → nests n h ≡ true → 1 ≤ left
+  head_s_lem : (h : HeadS) (left : ℕ) (n : Nest) (at : ℕ) {rest : List Record} → from t at ≡ write_s h ∷ rest → range_s v h ≡ true → nests n h ≡ true → 1 ≤ left
       → (parse_s left n v t at ≡ build_s (parse_e 16 v t) (parse_s (pred left) (inside n h) v t) (at + 1) h) × (from t (at + 1) ≡ rest)
   unfolding parse_s enter_s enter_if statement
-  head_S h zero n at is range nested some = absurd (omega arith)
-  head_S h (suc left) n at is range nested some =
+  head_s_lem h zero n at is range nested some = absurd (omega arith)
+  head_s_lem h (suc left) n at is range nested some =
       let (q, on) = leads_on t at statement_lawful v h is range in
       (rw (q, nested) refl, on)
 
@@ -92,39 +92,39 @@ module _ (t : List ℕ) (v : Env) where
 
     pub stmt_written : (x : Stmt) (left : ℕ) (n : Nest) (at end : ℕ) {rest : List Record} → from t at ≡ list_s x rest → depth_s x ≤ left
         → ifs x ≤ 8 - n.ifs → fors x ≤ 8 - n.fors → Inside v x → end ≡ at + size_s x → Reads (parse_s left n v t at) x end rest
-    stmt_written skip left n at end is d b l i e = leaf e (head_S SKIP left n at is refl refl d)
+    stmt_written skip left n at end is d b l i e = leaf e (head_s_lem SKIP left n at is refl refl d)
     stmt_written (seq ss) left n at end is d b l i e =
         let range = both (le-leb 2 (count_s ss) i.0) (le-leb (count_s ss) 256 i.1) in
-        let (p, on) = head_S (SEQ (count_s ss)) left n at is range refl (omega arith) in
+        let (p, on) = head_s_lem (SEQ (count_s ss)) left n at is range refl (omega arith) in
         let (q, rest) = stmts_written ss (pred left) n (at + 1) end on (omega arith) b l i.2 (omega arith) in
         (p ∙ rw q refl, rest)
     stmt_written (def x y) left n at end is d b l i e =
-        let (p, on) = head_S (DEF x) left n at is (lt-ltb x v.slots i.0) refl d in
+        let (p, on) = head_s_lem (DEF x) left n at is (lt-ltb x v.slots i.0) refl d in
         let (q, rest) = expr_written y 16 (at + 1) end on i.1.1 i.1.0 (omega arith) in
         (p ∙ rw q refl, rest)
     stmt_written (set x y) left n at end is d b l i e =
-        let (p, on) = head_S (SET x) left n at is (lt-ltb x v.slots i.0) refl d in
+        let (p, on) = head_s_lem (SET x) left n at is (lt-ltb x v.slots i.0) refl d in
         let (q, rest) = expr_written y 16 (at + 1) end on i.1.1 i.1.0 (omega arith) in
         (p ∙ rw q refl, rest)
     stmt_written (put a x y) left n at end is d b l i e =
-        let (p, on) = head_S (PUT a) left n at is (lt-ltb a v.arrays i.0) refl d in
+        let (p, on) = head_s_lem (PUT a) left n at is (lt-ltb a v.arrays i.0) refl d in
         let (q, on₁) = expr_written x 16 (at + 1) (at + 1 + size_e x) on i.1.1 i.1.0 refl in
         let (q₁, rest) = expr_written y 16 (at + 1 + size_e x) end on₁ i.2.1 i.2.0 (omega arith) in
         (p ∙ rw (q, q₁) refl, rest)
     stmt_written (for x lo hi s) left n at end is d b l i e =
         let range = both (lt-ltb x v.slots i.0) (le-leb lo hi i.1) in
-        let (p, on) = head_S (FOR x lo hi) left n at is range (lt-ltb n.fors 8 (omega arith)) (omega arith) in
+        let (p, on) = head_s_lem (FOR x lo hi) left n at is range (lt-ltb n.fors 8 (omega arith)) (omega arith) in
         let (q, rest) = stmt_written s (pred left) (inside n (FOR x lo hi)) (at + 1) end on (omega arith) b (omega arith) i.3 (omega arith) in
         (p ∙ rw q refl, rest)
     stmt_written (if c s u) left n at end is d b l i e =
         let m = at + 1 + size_e c in
-        let (p, on) = head_S IF left n at is refl (lt-ltb n.ifs 8 (omega arith)) (omega arith) in
+        let (p, on) = head_s_lem IF left n at is refl (lt-ltb n.ifs 8 (omega arith)) (omega arith) in
         let (q, on₁) = expr_written c 16 (at + 1) m on i.0.1 i.0.0 refl in
         let (q₁, on₂) = stmt_written s (pred left) (inside n IF) m (m + size_s s) on₁ (omega arith) (omega arith) (omega arith) i.1 refl in
         let (q₂, rest) = stmt_written u (pred left) (inside n IF) (m + size_s s) end on₂ (omega arith) (omega arith) (omega arith) i.2 (omega arith) in
         (p ∙ rw (q, q₁, q₂) refl, rest)
     stmt_written (return y) left n at end is d b l i e =
-        let (p, on) = head_S RETURN left n at is refl refl d in
+        let (p, on) = head_s_lem RETURN left n at is refl refl d in
         let (q, rest) = expr_written y 16 (at + 1) end on i.1 i.0 (omega arith) in
         (p ∙ rw q refl, rest)
 

@@ -28,7 +28,7 @@ use Rattle.stages.specs.declared.types.Typed.{Typed}
 use Rattle.stages.specs.declared.types.Parts.{Parts}
 use Rattle.script.proofs.Leading.{from}
 use Rattle.scoping.proofs.Found.{finds}
-use Rattle.scoping.proofs.Past.{past_E}
+use Rattle.scoping.proofs.Past.{past_e}
 use Rattle.stages.proofs.Gathering.{typed_found}
 use Rattle.scoping.proofs.Together.{or_assoc}
 
@@ -171,7 +171,7 @@ module _ (t params : List ℕ) (slots : ℕ) (v : Env) (sized : length params �
         let q : at + 1 + size_e l + size_e r ≡ at + suc (size_e l + size_e r) = omega arith in
         let Γ = types_of slots in
         let first = expr_typed l (left - 1) (at + 1) (list_e r rest) on (omega arith) i.0 in
-        let second = expr_typed r (left - 1) (at + 1 + size_e l) rest (past_E t l (at + 1) on) (omega arith) i.1 in
+        let second = expr_typed r (left - 1) (at + 1 + size_e l) rest (past_e t l (at + 1) on) (omega arith) i.1 in
         j ∙ rw (first, second) (answer_path (op_type o (ty Γ l)) (own at (op_fits o (ty Γ l) (ty Γ r)) (or_else (type_e Γ (at + 1) l) (type_e Γ (at + 1 + size_e l) r))) q)
     expr_typed (call f xs) left at rest is d i =
         let (j, on) = judges (rec 28 f 0 0) left at is (omega arith) in
@@ -189,7 +189,7 @@ module _ (t params : List ℕ) (slots : ℕ) (v : Env) (sized : length params �
         let Γ = types_of slots in
         let y = typed_at t params slots left z.next.at in
         let e : y ≡ answer_e slots at x = ap (typed_at t params slots left) here ∙ expr_typed x left at (list_es xs rest) is (omega arith) i.0 in
-        let r = exprs_typed xs left (at + size_e x) (with_part z y) rest (past_E t x at is) (omega arith) i.1 (ap (λ (w : Typed). w.next.at) e) in
+        let r = exprs_typed xs left (at + size_e x) (with_part z y) rest (past_e t x at is) (omega arith) i.1 (ap (λ (w : Typed). w.next.at) e) in
         let q : at + size_e x + size_es xs ≡ at + (size_e x + size_es xs) = omega arith in
         let plain = ap (λ (w : Typed). not w.boolean) e ∙ numeric_is (ty Γ x) in
         record {

@@ -28,7 +28,7 @@ use Rattle.stages.specs.Typed.{ty_of, is_boolean, types_of, no_parts, with_part,
 use Rattle.script.specs.declared.Env.{Env}
 use Rattle.script.specs.declared.First.{First}
 use Rattle.script.proofs.Leading.{from}
-use Rattle.scoping.proofs.Past.{past_E, past_S}
+use Rattle.scoping.proofs.Past.{past_e, past_s}
 use Rattle.scoping.proofs.Together.{Together, both_go, go_on, go_after, go_to, go_as, go_first, onward_goes, onward_assoc, onward_after, after_after, enters, program_staged}
 use Rattle.stages.proofs.TypeExprs.{ty_boolean, numeric_is, boolean_is, answer_e, expr_typed}
 
@@ -99,7 +99,7 @@ module _ (t params : List ℕ) (v : Env) (few : v.slots ≤ 32) (sized : length 
         let own = not (is_boolean (ty Γ k)) && not (is_boolean (ty Γ e)) in
         let plain : own ≡ is_numeric (ty Γ k) && is_numeric (ty Γ e) = rw (numeric_is (ty Γ k), numeric_is (ty Γ e)) refl in
         let read = one_typed slots (at + 1) k (list_e e rest) on i.1 in
-        let read_on = one_typed slots m e rest (past_E t k (at + 1) on) i.2 in
+        let read_on = one_typed slots m e rest (past_e t k (at + 1) on) i.2 in
         go_to q
         (go_as (w ∙ rw (read, read_on) refl) (required at plain _ ∙ ap (after (require own at)) (after_after first second (goes Γ)))
         (go_after (require own at) (go_after (or_else first second) (both_go {a = slots} refl))))
@@ -119,8 +119,8 @@ module _ (t params : List ℕ) (v : Env) (few : v.slots ≤ 32) (sized : length 
         let f : At ℕ → Walked (At ℕ) = λ b. walk (typing t params) t (left - 1) b.at b.state in
         let begun = ap (λ (z : Walked (At ℕ)). onward z f) (onward_after own (after first start) f ∙ ap (after own) (onward_after first start f)) in
         let both = begun ∙ onward_after own (after first (onward start f)) f ∙ ap (after own) (onward_after first (onward start f) f) in
-        let then = past_E t c (at + 1) on in
-        let other = past_S t s m then in
+        let then = past_e t c (at + 1) on in
+        let other = past_s t s m then in
         let deep : depth_s u ≤ left - 1 = omega arith in
         let branch = stmt_goes s (left - 1) m slots (list_s u rest) then (omega arith) i.1 in
         go_to q
@@ -146,7 +146,7 @@ module _ (t params : List ℕ) (v : Env) (few : v.slots ≤ 32) (sized : length 
         let turn = go_on (at + size_s s) (λ b. walk (typing t params) t left b.at b.state) (λ Γ. type_s Γ at s) g (λ b. stmt_goes s left at b (list_ss ss rest) is deep i.0) in
         go_to q
         (go_as refl (sym (onward_assoc r (λ Γ. type_s Γ at s) (λ Γ. type_ss Γ (at + size_s s) ss)))
-        (stmts_go ss left (at + size_s s) rest (past_S t s at is) (omega arith) i.1 turn))
+        (stmts_go ss left (at + size_s s) rest (past_s t s at is) (omega arith) i.1 turn))
 
 -- ---- functions
 -- what is noted is what the reading of the table noted
@@ -177,7 +177,7 @@ unfolding typed_func type_f size_f entered
 func_goes t v m f at fs then k i is =
     let q : at + suc (size_s f.body) ≡ at + 1 + size_s f.body = omega arith in
     let body = stmt_goes t m.params (entered v (head_of f)) i.slots k.sized k.params_are f.body 16 (at + 1) 0 (list_funcs fs) is i.deep i.body in
-    rw q (rw (← no_booleans) (go_first then body), past_S t f.body (at + 1) is)
+    rw q (rw (← no_booleans) (go_first then body), past_s t f.body (at + 1) is)
 
 -- THE LAW: over a table that was read, the code's stage says what `type_f` says of its tree's functions
 pub typed_is : (t : List ℕ) → Words t → (p : Program) (i : ℕ) → read_table t ≡ parsed p i → typed t ≡ over_program type_f p

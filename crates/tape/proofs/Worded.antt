@@ -103,7 +103,7 @@ module _ (t : Code) (𝓣 : WordedCode t) (n : ℕ) where
   unfolding pass carries
   pass_worded true l first q k c r x y f g =
       let below = ltb-true l.pass l.to (sym q) in
-      let end-word : l.to < 2 ^ 32 = record_worded (tail_worded k 𝓣) in
+      let end_word : l.to < 2 ^ 32 = record_worded (tail_worded k 𝓣) in
       worded_at (tail_next k) r (upd_worded x l.slot l.pass (omega arith)) (loop first k y) f (tick_page g)
   pass_worded false l first q k c r x y f g = worded_at c r x y f g
 

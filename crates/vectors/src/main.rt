@@ -60,12 +60,13 @@ fn report(
         return eprintln!(rt; "base.bin is no file of cases");
     }
     let s = cases::all_cases(&file[..n], own, given);
-    line(rt, "compiled", s.compiled)?;
-    line(rt, "run", s.run)?;
-    line(rt, "plain", s.plain)?;
-    line(rt, "differ", s.differ)
+    line(rt, b"compiled ", s.compiled)?;
+    line(rt, b"run ", s.run)?;
+    line(rt, b"plain ", s.plain)?;
+    line(rt, b"differ ", s.differ)
 }
 
-fn line(rt: &impl Print, name: &str, count: u32) -> io::Result<()> {
-    println!(rt; "{name} {count}")
+fn line(rt: &impl Print, name: &[u8], count: u32) -> io::Result<()> {
+    rt.write_all(name)?;
+    println!(rt; "{count}")
 }

@@ -40,6 +40,7 @@ fn said(row: &[u32; 16], f: u32) -> u32
 }
 
 // The steps that an expression's own record counts: a literal's none, CALL's those of its function too.
+#[tactic(auto, using(std::proofs::lemmas::Bool::Decides::nat_tests), unfolding(crate::specs::Counting::weight))]
 fn weight(x: Record, steps: &[u32; 16]) -> u32
     ensures { result ≡ weight steps.now x }
 {

@@ -50,6 +50,9 @@ fn function(
     body
 }
 
+// Exactly so many steps pass (12).
+const LIMIT: usize = 1000000000;
+
 // The functions one after another, to the first that is over the limit.
 fn functions(
     table: &[u32],
@@ -66,7 +69,7 @@ fn functions(
     let mut f = 0usize;
     while f < n {
         let next = function(table, params, steps, depths, here, f);
-        if 1000000000 < next.steps {
+        if LIMIT < next.steps {
             let place = here.at;
             return Cost::Over(place.at);
         }

@@ -159,6 +159,7 @@ fn enter(table: &[u32], at: Reader, x: Record, next: Reader, slots: Slots) -> Wa
 }
 
 // After a statement within one of this kind: what was visible outside is visible again, unless it is a SEQ's.
+#[tactic(auto, using(std::proofs::lemmas::Bool::Decides::nat_tests), unfolding(crate::specs::Scoped::leaves, crate::specs::Scoped::closed_by, crate::specs::Scoped::walk_of, crate::specs::Scoped::walked_of))]
 fn leave(kind: u32, outside: Slots, inside: Walk) -> Walk
     ensures { result ≡ walk_of (leaves kind outside (walked_of inside)) }
 {

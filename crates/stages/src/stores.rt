@@ -8,6 +8,9 @@ use scoping::passes::program;
 use script::First;
 use word::reader::{Read, Reader};
 
+// As many functions are left at the exposed one, the last: itself.
+const EXPOSED: u32 = 1;
+
 // From the cursor on, with so many functions left, the exposed one counted.
 fn first_store(table: &[u32], start: Reader, functions: u32) -> First
     ensures { result ≡ storing functions start.at (drop start.at (records_of table.now)) }
@@ -24,7 +27,7 @@ fn first_store(table: &[u32], start: Reader, functions: u32) -> First
                 };
             }
             3 => {
-                if left <= 1 {
+                if left <= EXPOSED {
                     return First::Clean;
                 }
                 left -= 1;

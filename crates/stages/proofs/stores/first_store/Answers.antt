@@ -25,14 +25,14 @@ rest c = ap (storing _ _) (sym (there c).1) ∙ c.loop-x.invariant
 pub returns-in-34 : goal.returns-in-34
 returns-in-34 c = sym (at_store _ _ _ _ c.in-34.is) ∙ rest (goal.at.returns-in-34 c).In-Found
 
-pub returns-then-left-le1 : goal.returns-then-left-le1
-returns-then-left-le1 c = sym (at_last _ _ _ _ c.in-3.is c.if-left-le1.true) ∙ rest (goal.at.returns-then-left-le1 c).In-Found
+pub returns-then-left-le-EXPOSED : goal.returns-then-left-le-EXPOSED
+returns-then-left-le-EXPOSED c = sym (at_last _ _ _ _ c.in-3.is c.if-left-le-EXPOSED.true) ∙ rest (goal.at.returns-then-left-le-EXPOSED c).In-Found
 
-pub loop-x-smaller-else-left-le1 : goal.loop-x-smaller-else-left-le1
-loop-x-smaller-else-left-le1 c = omega (arith, (there (goal.at.loop-x-smaller-else-left-le1 c).In-Found).0, (there (goal.at.loop-x-smaller-else-left-le1 c).In-Found).2)
+pub loop-x-smaller-else-left-le-EXPOSED : goal.loop-x-smaller-else-left-le-EXPOSED
+loop-x-smaller-else-left-le-EXPOSED c = omega (arith, (there (goal.at.loop-x-smaller-else-left-le-EXPOSED c).In-Found).0, (there (goal.at.loop-x-smaller-else-left-le-EXPOSED c).In-Found).2)
 
-pub loop-x-preserved-else-left-le1 : goal.loop-x-preserved-else-left-le1
-loop-x-preserved-else-left-le1 c = rw (there (goal.at.loop-x-preserved-else-left-le1 c).In-Found).2 (sym (at_function _ _ _ _ c.in-3.is c.if-left-le1.false) ∙ rest (goal.at.loop-x-preserved-else-left-le1 c).In-Found)
+pub loop-x-preserved-else-left-le-EXPOSED : goal.loop-x-preserved-else-left-le-EXPOSED
+loop-x-preserved-else-left-le-EXPOSED c = rw (there (goal.at.loop-x-preserved-else-left-le-EXPOSED c).In-Found).2 (sym (at_function _ _ _ _ c.in-3.is c.if-left-le-EXPOSED.false) ∙ rest (goal.at.loop-x-preserved-else-left-le-EXPOSED c).In-Found)
 
 pub loop-x-smaller : goal.loop-x-smaller
 loop-x-smaller c = omega (arith, (there (goal.at.loop-x-smaller c).In-Found).0, (there (goal.at.loop-x-smaller c).In-Found).2)

@@ -12,7 +12,7 @@ use Rattle.script.specs.Written.{count_e, count_s, list_e, list_es, list_s, list
 use Rattle.script.specs.declared.Env.{Env}
 use Rattle.script.proofs.Leading.{from, expression_lawful, statement_lawful}
 use Rattle.scoping.proofs.Found.{finds}
-use Rattle.tape.specs.Instruction.{def as core-def, end as core-end}
+use Rattle.tape.specs.Instruction.{def as core_def, end as core_end}
 use Rattle.translation.specs.Translate.{lowered, EXT, EXTs, layout, merge, STT, STTs}
 use Rattle.emitting.specs.Emitting.{Sheet, puts, lay_e, lay_es, lay_s, masks, merges, assigns, stores, gives, flips}
 use Rattle.emitting.specs.Walking.{Desk, desk, on, times, looping, lowered_code, arity, own, walk_e, putting, branching, head_s, walk_s}
@@ -155,13 +155,13 @@ module _ (t : List ℕ) (v : Env) where
       stmt_walked (for x f g b) left d at end s is k i e =
           let (p, then) = head_s_lem (FOR x f g) left d at s is (omega arith) in
           let (q, rest) = stmt_walked b (left - 1) d (at + 1) end _ then (omega arith) i.3 (omega arith) in
-          (p ∙ ap (on (puts core-end)) q, rest)
+          (p ∙ ap (on (puts core_end)) q, rest)
       stmt_walked (if c a b) left d at end s is k i e =
           let (p, then) = head_s_lem IF left d at s is (omega arith) in
           let i₁ = at + 1 + size_e c in
           let i₂ = i₁ + size_s a in
           let (q, then₁) = expr_walked c 16 (at + 1) i₁ s then i.0.1 i.0.0 refl in
-          let s₁ = puts (core-def (n + 2 + d)) (lay_e (EXT c) s) in
+          let s₁ = puts (core_def (n + 2 + d)) (lay_e (EXT c) s) in
           let s₂ = flips (layout n) d (lay_s (STT (layout n) (suc d) a) s₁) in
           let (q₁, then₂) = stmt_walked a (left - 1) (suc d) i₁ i₂ s₁ then₁ (omega arith) i.1 refl in
           let (q₂, rest) = stmt_walked b (left - 1) (suc d) i₂ end s₂ then₂ (omega arith) i.2 (omega arith) in

@@ -105,10 +105,10 @@ module _ (v : Env) (κ t : List ℕ) (few : v.func ≤ 16) (n : ℕ) where
       let r = records_s (STT (layout n) (suc d) s) in
       let k = steps_s takes (STT (layout n) (suc d) s) in
       let y = laid (size_s s) r k (suc d + depth s) z in
-      let at-s = past_e t e (c.at.at + 1) on in
-      let at-u = past_s t s (c.at.at + 1 + size_e e) at-s in
+      let at_s = past_e t e (c.at.at + 1) on in
+      let at_u = past_s t s (c.at.at + 1 + size_e e) at_s in
       ap (λ (w : Count). f (f (deeper (suc d) (plus 4 4 w)))) (expr_counted v κ few t e first (list_s s (list_s u rest)) on i l)
-      ∙ ap f (then z at-s (hold_hold _, hold_hold _) (omega arith)) ∙ else y at-u (laid_held (size_s s) r k (suc d + depth s) z) (omega arith)
+      ∙ ap f (then z at_s (hold_hold _, hold_hold _) (omega arith)) ∙ else y at_u (laid_held (size_s s) r k (suc d + depth s) z) (omega arith)
       ∙ alike (omega arith) (add_all c.records (size_e e) 4 r _ _ (omega (arith, if_records n d e s u)))
       (add_all c.steps (steps_e takes (EXT e)) 4 k _ _ (omega (arith, if_steps takes n d e s u))) (omega arith)
 

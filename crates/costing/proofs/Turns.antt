@@ -44,8 +44,8 @@ module _ (params κ : List ℕ) where
       → next.at ≡ here.at.at + 1 → w ≡ weight κ x → one ≡ plus 1 w here → q ≡ hold (p - 1 + arity_of params x)
       → tally params κ (from t next.at) q (moved next.at one) ≡ tally params κ (from t here.at.at) p here
   unfolding plus past
-  tally_step t here one x next p q w some is on heavy plus-is parts =
-      let made : moved next.at one ≡ past 1 (weight κ x) here = (λ i. moved (on i) (plus-is i)) ∙ ap (λ (n : ℕ). past 1 n here) heavy in
+  tally_step t here one x next p q w some is on heavy plus_is parts =
+      let made : moved next.at one ≡ past 1 (weight κ x) here = (λ i. moved (on i) (plus_is i)) ∙ ap (λ (n : ℕ). past 1 n here) heavy in
       (λ i. tally params κ (from t (on i)) (parts i) (made i)) ∙ sym (tally_on x (from t (here.at.at + 1)) p here some) ∙ ap (λ (xs : List Record). tally params κ xs p here) (sym is)
 
 -- ---- some parts of n

@@ -184,15 +184,15 @@ module _ (t : List ℕ) (m : ℕ) (a : Passed t m) (funcs : List ℕ) (s : Flat)
         let fb = o.low_base in
         let sm = (fine t m a s.regs.at o.on_tape).small in
         let n = bounds in
-        let p-is = fields.0 in
-        let q-is = fields.1 in
+        let p_is = fields.0 in
+        let q_is = fields.1 in
         record {
           listed = omega arith;
           there = rw listed there.there;
-          enough = rw (listed, p-is) (omega arith);
+          enough = rw (listed, p_is) (omega arith);
           full = n.0;
-          fits = rw (listed, p-is) (omega arith);
-          small = rw (listed, q-is) (omega arith);
+          fits = rw (listed, p_is) (omega arith);
+          small = rw (listed, q_is) (omega arith);
           calls = omega arith;
         }
 

@@ -18,7 +18,7 @@ use Rattle.tape.specs.Entries.{Entry, entry_at}
 use Rattle.tape.specs.Rules.{World, Loop, Frame, at, halted, tick, grab, back, exec}
 use Rattle.tape.proofs.Cases.{cfunc_fields}
 use Rattle.tape.proofs.Places.{scan_at, Passed}
-use Rattle.tape.proofs.Entered.{Stands-at}
+use Rattle.tape.proofs.Entered.{StandsAt}
 use Rattle.tape.proofs.Positions.{placed_at, entry_there}
 use Rattle.tape.proofs.Steady.{both}
 use Rattle.machine.specs.Flat.{Flat, flat, count, frame, pick, copied, places_of, flat_by}
@@ -39,7 +39,7 @@ module _ (t : List ℕ) (m : ℕ) (a : Passed t m) (funcs : List ℕ) (s : Flat)
 
   -- ---- CALL
   module _ (values : List ℕ) {τ : Slots} {L : List Loop} {F : List Frame} {w : World} (r₀ : Here t m a funcs Δ s b values τ L F w) (f place params slots : ℕ)
-      (e : Says (call f)) (there : Stands-at t f place params slots) (listed : get_or funcs f 0 ≡ place) (enough : params ≤ length values)
+      (e : Says (call f)) (there : StandsAt t f place params slots) (listed : get_or funcs f 0 ≡ place) (enough : params ≤ length values)
       (lower : f < length (scan_at t s.regs.at).known) (params_are : (known_at (scan_at t s.regs.at) f).params ≡ params) where
     S : Scan
     S = scan_at t s.regs.at
@@ -72,14 +72,14 @@ module _ (t : List ℕ) (m : ℕ) (a : Passed t m) (funcs : List ℕ) (s : Flat)
         let fo = o.low_loops in
         let rk = o.rank in
         let tp = o.top_is in
-        let fine-here = fine t m a i o.on_tape in
-        let small = fine-here.small in
-        let deep = fine-here.deep in
-        let high = fine-here.heights in
+        let fine_here = fine t m a i o.on_tape in
+        let small = fine_here.small in
+        let deep = fine_here.deep in
+        let high = fine_here.heights in
         let tall = o.height in
-        let q-small = both (leb params 8 && leb params slots) (leb slots 64) k.range in
-        let p-small = leb-true params slots (both (leb params 8) (leb params slots) q-small.0).1 in
-        let s-small = leb-true slots 64 q-small.1 in
+        let q_small = both (leb params 8 && leb params slots) (leb slots 64) k.range in
+        let p_small = leb-true params slots (both (leb params 8) (leb params slots) q_small.0).1 in
+        let s_small = leb-true slots 64 q_small.1 in
         let room : s.regs.top + params ≤ 1024 = omega arith in
         let few : s.regs.calls < 16 = omega arith in
         let scope = ap (λ (y : Scan). y.body.scope) c in
@@ -98,7 +98,7 @@ module _ (t : List ℕ) (m : ℕ) (a : Passed t m) (funcs : List ℕ) (s : Flat)
           loops = rw (ap (λ (y : Scan). y.known) c, ap (λ (y : Scan). y.slots) c, ap (λ (y : Scan). y.body.loops) c, scope) o.loops;
           agree = λ x v.
               let u = rw scope at v in
-              below (s.regs.base + x) (let l = fine-here.visible x u in omega arith) ∙ o.agree x u;
+              below (s.regs.base + x) (let l = fine_here.visible x u in omega arith) ∙ o.agree x u;
           top_is = tp ∙ ap (λ (y : ℕ). s.regs.base + y) (sym (ap (λ (y : Scan). y.slots) c));
           rank = omega (arith, ap (λ (y : Scan). length y.known) c);
           low_floor = fl;

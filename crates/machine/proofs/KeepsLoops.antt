@@ -107,12 +107,12 @@ module _ (t : List ℕ) (m : ℕ) (a : Passed t m) (funcs : List ℕ) (Δ : ℕ 
       let p = past_loop t m a i x q r o.on_tape o.in_body_lem e in
       let j = p.place in
       let same : j ≡ past_at t i = past_is t i j p.within (p.is ∙ ap (λ (n : ℕ). past 0 (drop n (code_of t))) (sym (add-one i))) in
-      let on-it = goes_on t m a j p.within (ap more p.due_there ∙ (unfold more in refl)) in
+      let on_it = goes_on t m a j p.within (ap more p.due_there ∙ (unfold more in refl)) in
       let z = flat (free s.regs (past_at t i) s.regs.operands s.regs.loops) s.fors s.passes s.backs s.bases s.operands s.slots s.memory in
       subst (λ (c : Code). Stands t z (at c [] τ L F w)) p.is
       (arrive {z = z} r₀.floor r₀.low (sym same)
       (record {
-        on_tape = on-it;
+        on_tape = on_it;
         in_body_lem = p.due_there;
         piled = o.piled;
         height = omega (arith, p.operands_there);

@@ -12,7 +12,7 @@ use Rattle.tape.specs.Instruction.{cfunc}
 use Rattle.tape.specs.Scan.{Scan, opening, enters, next}
 use Rattle.tape.specs.Faults.{readable}
 use Rattle.tape.proofs.Places.{Passed}
-use Rattle.tape.proofs.Entered.{Stands-at}
+use Rattle.tape.proofs.Entered.{StandsAt}
 use Rattle.machine.specs.Flat.{Flat}
 use Rattle.machine.proofs.Piled.{bare}
 use Rattle.machine.proofs.Relation.{On, outside}
@@ -28,10 +28,10 @@ begin_visible p x = go (ltb x p) refl
     go false e q = absurd (false≢true q)
 
 pub entering : (t : List ℕ) (m : ℕ) (a : Passed t m) (z : Flat) {f place params slots : ℕ} (n low base calls : ℕ) (arguments : List ℕ)
-    → Stands-at t f place params slots → ((x : ℕ) → x < params → get_or z.slots (base + x) 0 ≡ get_or arguments x 0) → calls + f ≤ 15
+    → StandsAt t f place params slots → ((x : ℕ) → x < params → get_or z.slots (base + x) 0 ≡ get_or arguments x 0) → calls + f ≤ 15
     → n ≤ calls * 128 → low ≤ calls * 8 → base ≤ calls * 64 → On t z (suc place) 0 n n low low base (base + slots) calls [] (fresh arguments) []
 unfolding next enters opening
-entering t m a z {f} {place} {params} {slots} n low base calls arguments there agree rank floor loops slots-low =
+entering t m a z {f} {place} {params} {slots} n low base calls arguments there agree rank floor loops slots_low =
     let g = scan_next t m a place (cfunc params slots) there.is in
     let due = ap (λ (y : Scan). y.due) g in
     record {
@@ -45,5 +45,5 @@ entering t m a z {f} {place} {params} {slots} n low base calls arguments there a
       rank = omega (arith, ap (λ (y : Scan). length y.known) g, there.rank);
       low_floor = floor;
       low_loops = loops;
-      low_base = slots-low;
+      low_base = slots_low;
     }

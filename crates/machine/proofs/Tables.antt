@@ -23,7 +23,7 @@ use Rattle.tape.proofs.Places.{Passed, passed}
 use Rattle.tape.proofs.Cases.{by_kind, read_cfunc}
 use Rattle.tape.proofs.Reading.{code_from, code_length}
 use Rattle.tape.proofs.Declaring.{one_function, functions_before, functions_next, entries_all}
-use Rattle.tape.proofs.Entered.{Stands-at}
+use Rattle.tape.proofs.Entered.{StandsAt}
 use Rattle.tape.proofs.Positions.{code_there, before}
 use Rattle.tape.proofs.Declared.{exposed_there, array_at, array_small, arrays_all, arrays_few}
 use Rattle.machine.specs.Flat.{sizes, with_place, places_of, is_accepted, Stored}
@@ -43,7 +43,7 @@ place_at (suc i) at (y ∷ c) e =
     let z : i + suc at ≡ suc i + at = omega arith in
     place_by_lem (declares y) at (places_of (suc at) c) (functions_before i c) ∙ place_at i (suc at) c e ∙ z
 
-pub place_there : (t : List ℕ) (m : ℕ) (a : Passed t m) {f place params slots : ℕ} → Stands-at t f place params slots → get_or (places_of 0 (code_of t)) f 0 ≡ place
+pub place_there : (t : List ℕ) (m : ℕ) (a : Passed t m) {f place params slots : ℕ} → StandsAt t f place params slots → get_or (places_of 0 (code_of t)) f 0 ≡ place
 place_there t m a {place = place} there =
     let e : place + 0 ≡ place = omega arith in
     ap (λ (g : ℕ). get_or (places_of 0 (code_of t)) g 0) (sym (before t m a there)) ∙ place_at place 0 (code_of t) (code_there t m a there) ∙ e

@@ -35,7 +35,7 @@ use Rattle.translation.specs.Compile.{stages, first_of, written, unless_fault, c
 use Rattle.translation.specs.declared.Compiled.{Compiled}
 use Rattle.translation.specs.declared.Compiled.TheVariants.{Tape, Refused}
 use Rattle.translation.proofs.Accepted.{accepted_correct, accepted_translated}
-use Rattle.translation.proofs.Limits.{tape_accepted as accepted-tape}
+use Rattle.translation.proofs.Limits.{tape_accepted as accepted_tape}
 use Rattle.machine.specs.Run.{begin, after, result_of, run}
 use Rattle.machine.specs.declared.Ran.TheVariants.{Done}
 use Rattle.promises.specs.Compiles.{tape_left, TapeOf, takes}
@@ -116,7 +116,7 @@ module _ (table out : List ℕ) (n steps : ℕ) (given : Words table) (h : (comp
   pub tape_accepted : check (tape_left table out n) ≡ Accepted steps
   tape_accepted =
       let r = tape_of_rules in
-      ap check r.is_tape ∙ accepted-tape r.script (written_read table r.script (records table) given r.reads).1 r.passes
+      ap check r.is_tape ∙ accepted_tape r.script (written_read table r.script (records table) given r.reads).1 r.passes
       ∙ ap (λ (k : ℕ). Accepted k) (sym r.steps_are)
 
 -- ---- the last function, in the script and on the tape

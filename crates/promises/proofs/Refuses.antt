@@ -20,9 +20,9 @@ use Rattle.script.specs.Stores.{stores}
 use Rattle.script.specs.declared.First.{First}
 use Rattle.script.specs.declared.First.TheVariants.{Clean, Fault}
 use Rattle.script.proofs.Exactly.{reads_exactly as exactly}
-use Rattle.script.proofs.Stopping.{first_fault as Stops-first}
-use Rattle.script.proofs.FirstScope.{scope_first as scope-stops}
-use Rattle.script.proofs.FirstStore.{stores_first as stores-stop}
+use Rattle.script.proofs.Stopping.{first_fault as stops_first}
+use Rattle.script.proofs.FirstScope.{scope_first as scope_stops}
+use Rattle.script.proofs.FirstStore.{stores_first as stores_stop}
 use Rattle.tape.specs.Tape.{tape}
 use Rattle.translation.specs.Translate.{translate}
 use Rattle.translation.specs.Compile.{Result, stages, first_of, written, unless_fault, compile_by, compile}
@@ -39,15 +39,15 @@ reads_exactly = exactly
 -- number, in that stage (2 to 7; 8 and 9; 11)
 pub first_fault : (t u : List ℕ) (number place : ℕ) → read_table t ≡ refused number place → 2 ≤ number → sized 4096 (length u) ≡ true
     → take (suc place) (records_of u) ≡ take (suc place) (records_of t) → read_table u ≡ refused number place
-first_fault = Stops-first
+first_fault = stops_first
 
 pub first_scope : (p q : Program) (number place : ℕ) → Within p → Within q → over_program scope_f p ≡ Fault number place
     → take (suc place) (listing q) ≡ take (suc place) (listing p) → over_program scope_f q ≡ Fault number place
-first_scope = scope-stops
+first_scope = scope_stops
 
 pub first_store : (p q : Program) (number place : ℕ) → Within p → Within q → stores p ≡ Fault number place
     → take (suc place) (listing q) ≡ take (suc place) (listing p) → stores q ≡ Fault number place
-first_store = stores-stop
+first_store = stores_stop
 
 -- ---- REFUSES EXACTLY
 number_of : Compiled → ℕ

@@ -20,7 +20,7 @@ use Rattle.tape.proofs.Accepted.{accepted_is_program}
 use Rattle.tape.proofs.Meaning.{cprogram}
 use Rattle.tape.proofs.Running.{Underway, underway, opening, standing}
 use Rattle.tape.proofs.Counted.{stands_done, stands_underway, total_steps}
-use Rattle.tape.proofs.Alike.{Alike, both_at, both_halted, both_stuck, left_alike, step_alike, starts_alike, lockstep as stand-alike}
+use Rattle.tape.proofs.Alike.{Alike, both_at, both_halted, both_stuck, left_alike, step_alike, starts_alike, lockstep as stand_alike}
 use Rattle.machine.specs.Run.{Result, begin, after, result_of, unless, admitted, run_by, run}
 use Rattle.machine.specs.declared.Ran.{Ran}
 use Rattle.machine.specs.declared.Ran.TheVariants.{Done, Stopped, Refused}
@@ -137,7 +137,7 @@ unfolding after begin
 lockstep t arguments memory arguments₁ memory₁ m r r₁ =
     record {
       same_records = λ n. same_through (code_of t) n (starts_alike (code_of t) arguments arguments₁ memory memory₁);
-      same_end = λ n. rw (stands t arguments memory m r n, stands t arguments₁ memory₁ m r₁ n) (same_ends (code_of t) (stand-alike (code_of t) arguments arguments₁ memory memory₁ n));
+      same_end = λ n. rw (stands t arguments memory m r n, stands t arguments₁ memory₁ m r₁ n) (same_ends (code_of t) (stand_alike (code_of t) arguments arguments₁ memory memory₁ n));
     }
 
 -- ---- ONE ANSWER: two answers that meet the contract of `run` are equal

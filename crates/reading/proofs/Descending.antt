@@ -173,12 +173,12 @@ module _ (n : Nest) (e : Env) (t : List ℕ) (at : ℕ) where
         → c ≡ expressions_in (read_s x) → d ≡ statements_in (read_s x) → inner ≡ inside n (read_s x) → w ≡ walk_of (parts (whole e t) c m.at)
         → walk_of (parse_s left n e t at) ≡ step w (λ j. walk_of (sequence (parse_s (left - 1) inner e t) d j))
     unfolding parse_s enter_s enter_if statement
-    statement_walk zero c d inner w is within count so-many round first = let z : ◌≡◌ {A = ℕ} 0 1 = cc in absurd (omega arith)
-    statement_walk (suc left) c d inner w is within count so-many round first =
+    statement_walk zero c d inner w is within count so_many round first = let z : ◌≡◌ {A = ℕ} 0 1 = cc in absurd (omega arith)
+    statement_walk (suc left) c d inner w is within count so_many round first =
         let g : ℕ → Parsed Expr = whole e t in
         let f : ℕ → Parsed Stmt = parse_s left (inside n (read_s x)) e t in
         let h = read_s x in
-        rw (first, sub-one, count, so-many, round, read_on t at x m found, lead_node statement e t at x m found is, (fits_both (suc left) (nests n (read_s x)) within).1)
+        rw (first, sub-one, count, so_many, round, read_on t at x m found, lead_node statement e t at x m found is, (fits_both (suc left) (nests n (read_s x)) within).1)
         (statement_run g f (at + 1) h
         ∙ ap (λ (v : Walk). step v (run (λ j. walk_of (f j)) (statements_in h))) (sym (parts_run g (expressions_in h) (at + 1)))
         ∙ ap (step (walk_of (parts g (expressions_in h) (at + 1)))) (λ i j. sym (sequence_run f (statements_in h) j) i))

@@ -16,7 +16,7 @@ use Rattle.word.specs.declared.reader.Read.TheVariants.{Found, End}
 use Rattle.script.specs.Tree.{Program}
 use Rattle.script.specs.Table.{program, array, function}
 use Rattle.script.specs.Parse.{Parsed, parsed, refused, parse_s, outermost, entered, passed, func_of, headed, parse_funcs, nowhere, parse_arrays, parse_program, wholly, read_table}
-use Rattle.script.specs.Stage.{clean, fault as at-fault}
+use Rattle.script.specs.Stage.{clean, fault as at_fault}
 use Rattle.reading.specs.Structure.{record_fault, walk_of, fault_of, structured}
 use Rattle.script.specs.declared.Env.{Env}
 use Rattle.reading.specs.declared.descent.Walk.{Walk}
@@ -105,31 +105,31 @@ module _ (t : List ℕ) where
   abbrev count : ℕ
   count = records t
 
-  extra : (b : Bool) (p : Program) (i : ℕ) → fault_of (cond b (refused 6 i) (parsed p i)) ≡ cond b (at-fault 6 i) clean
+  extra : (b : Bool) (p : Program) (i : ℕ) → fault_of (cond b (refused 6 i) (parsed p i)) ≡ cond b (at_fault 6 i) clean
   unfolding fault_of
   extra true p i = refl
   extra false p i = refl
 
-  wholly_on : (p : Parsed Program) (r : Reader) → walk_of p ≡ On r → fault_of (wholly count p) ≡ cond (ltb r.at count) (at-fault 6 r.at) clean
+  wholly_on : (p : Parsed Program) (r : Reader) → walk_of p ≡ On r → fault_of (wholly count p) ≡ cond (ltb r.at count) (at_fault 6 r.at) clean
   unfolding wholly walk_of
   wholly_on (parsed p i) r is = let same : i ≡ r.at = cc in rw (← same) (extra (ltb i count) p i)
   wholly_on (refused number place) r is = let z : ◌≡◌ {A = ℕ} 0 1 = cc in absurd (omega arith)
 
-  wholly_stop : (p : Parsed Program) (number place : ℕ) → walk_of p ≡ Stop number place → fault_of (wholly count p) ≡ at-fault number place
+  wholly_stop : (p : Parsed Program) (number place : ℕ) → walk_of p ≡ Stop number place → fault_of (wholly count p) ≡ at_fault number place
   unfolding wholly walk_of fault_of
   wholly_stop (parsed p i) number place is = let z : ◌≡◌ {A = ℕ} 0 1 = cc in absurd (omega arith)
   wholly_stop (refused n p) number place is = cc
 
-  pub structure_one : sized 4096 (length t) ≡ false → structured t ≡ at-fault 1 0
+  pub structure_one : sized 4096 (length t) ≡ false → structured t ≡ at_fault 1 0
   unfolding structured read_table fault_of
   structure_one is = rw is refl
 
   pub structure_on : (r : Reader) → sized 4096 (length t) ≡ true → walk_of (parse_program t) ≡ On r
-      → structured t ≡ cond (ltb r.at count) (at-fault 6 r.at) clean
+      → structured t ≡ cond (ltb r.at count) (at_fault 6 r.at) clean
   unfolding structured read_table
   structure_on r is w = rw is (wholly_on (parse_program t) r w)
 
-  pub structure_stop : (number place : ℕ) → sized 4096 (length t) ≡ true → walk_of (parse_program t) ≡ Stop number place → structured t ≡ at-fault number place
+  pub structure_stop : (number place : ℕ) → sized 4096 (length t) ≡ true → walk_of (parse_program t) ≡ Stop number place → structured t ≡ at_fault number place
   unfolding structured read_table
   structure_stop number place is w = rw is (wholly_stop (parse_program t) number place w)
 
@@ -146,6 +146,6 @@ module _ (t : List ℕ) where
   unfolding structured fault_of
   read_clean p i e = rw e refl
 
-  pub refused_fault : (number place : ℕ) → read_table t ≡ refused number place → structured t ≡ at-fault number place
+  pub refused_fault : (number place : ℕ) → read_table t ≡ refused number place → structured t ≡ at_fault number place
   unfolding structured fault_of
   refused_fault number place e = rw e refl

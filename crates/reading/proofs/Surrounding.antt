@@ -11,11 +11,11 @@ either : {A : Type 0} (P : A → Type 0) (b : Bool) {x y : A} → P x → P y �
 either P true p q = p
 either P false p q = q
 
-module _ (x : Record) (no-for : x.kind ≡ 35 → ⊥) (no-if : x.kind ≡ 36 → ⊥) where
+module _ (x : Record) (no_for : x.kind ≡ 35 → ⊥) (no_if : x.kind ≡ 36 → ⊥) where
   neither : (P : HeadS → Type 0) → P SKIP → P (SEQ x.p) → P (DEF x.p) → P (SET x.p) → P (PUT x.p) → P RETURN → P (read_s x)
   unfolding read_s
   neither P k30 k31 k32 k33 k34 k37 =
-      rw (ne_eqb _ 35 no-for, ne_eqb _ 36 no-if)
+      rw (ne_eqb _ 35 no_for, ne_eqb _ 36 no_if)
       (either P (eqb x.kind 30) k30
       (either P (eqb x.kind 31) k31 (either P (eqb x.kind 32) k32 (either P (eqb x.kind 33) k33 (either P (eqb x.kind 34) k34 k37)))))
 

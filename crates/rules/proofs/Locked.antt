@@ -14,7 +14,7 @@ use Rattle.word.specs.Slots.{Slots, Scope, upd, fresh, hidden, fixed, begin}
 use Rattle.word.proofs.Laws.{op_of_code}
 use Rattle.word.proofs.Memory.{upd_same, upd_other}
 use Rattle.tape.specs.Core.{CExpr, LIT, VAR, GET, NOT, BIN, CALL, CExprs, NONE, MORE, CStmt, SKIP, ◌⨾◌, DEF, SET, PUT, FOR, CFunc}
-use Rattle.tape.specs.Instruction.{Instruction, Code, for as for-record, end}
+use Rattle.tape.specs.Instruction.{Instruction, Code, for as for_record, end}
 use Rattle.tape.specs.Tape.{tape_e, tape_es, tape_s}
 use Rattle.tape.specs.Entries.{Entry}
 use Rattle.tape.specs.Rules.{World, Loop, Frame, Machine, at as machine, tick, stored, one, two, past, pass, again, ending, back, exec, step, turn_for, turn_end, turn_loops, turn, is_free, quiet as free}
@@ -201,7 +201,7 @@ module _ (lengths : List ℕ) (Δ : ℕ → Entry) (Λ : ℕ → Fval) where
         let e = is_hidden (D x) g.1 in
         spins x r t D S B c _ s L F μ e g.2
         (λ i st₁ l₁ S₁ σ₁ m₁ b. s_lock t (upd D x fixed) g.2 S₁ σ₁ m₁ μ (end ∷ c) s (assign st₁.slots x i st₁.world) (l₁ ∷ L) F b)
-        (r - q) q st σ m refl g.0 (agree_out x e a) (for-record x q r) B L refl refl
+        (r - q) q st σ m refl g.0 (agree_out x e a) (for_record x q r) B L refl refl
         (ap (λ (d : Code). pass (ltb q r) (record { slot = x; pass = q; to = r; body = B }) d s st.slots L F st.world) (past_s t 0 (end ∷ c)))
 
     -- a function, as the exposed one and from a frame

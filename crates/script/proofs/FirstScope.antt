@@ -143,11 +143,11 @@ module _ {number place : ℕ} where
           rw (← z) (c, after_like (scope_e N.seen i y) (scope_e_like t N.seen) (λ c f. not_goes f) f)) e
       scope_s_like (like_for {at} {x} {s = s} h) N e =
           refuse_like (N.declared x) 8 at (close_like N (scope_s (declare N x fixed) (at + 1) s) (λ f. scope_s_like h (declare N x fixed) f)) e
-      scope_s_like (like_if {at} {c} {s = s} {r = r} {s₁ = t} {r₁ = u} h same-c h₁ same_s h₂) N e =
+      scope_s_like (like_if {at} {c} {s = s} {r = r} {s₁ = t} {r₁ = u} h same_c h₁ same_s h₂) N e =
           after_like (scope_e N.seen (at + 1) c) (scope_e_like h N.seen)
           (λ p f.
           let i = at + 1 + size_e c in
-          let z = same-c (omega (arith, branches_from N i s t f)) in
+          let z = same_c (omega (arith, branches_from N i s t f)) in
           rw (← z) (p, branches_like N i s t r u (λ o. scope_s_like h₁ N o) same_s (λ M o. scope_s_like h₂ M o) f)) e
       scope_s_like (like_return {at} {e = y} h) N e = after_like (scope_e N.seen (at + 1) y) (scope_e_like h N.seen) (λ c f. not_goes f) e
 

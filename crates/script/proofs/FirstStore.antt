@@ -54,10 +54,10 @@ module _ {number place : ℕ} where
       store_like (like_set h) e = not_clean e
       store_like (like_put h same t) e = e
       store_like (like_for h) e = store_like h e
-      store_like (like_if {at} {c} {d} {s} {r} {s₁ = t} h same-c h₁ same_s h₂) e =
+      store_like (like_if {at} {c} {d} {s} {r} {s₁ = t} h same_c h₁ same_s h₂) e =
           let i = at + 1 + size_e c in
           let far = or_from {at = i} (store_s i s) (store_from s i i (omega arith)) (store_from t (i + size_s s) i (omega arith)) e in
-          let z : c ≡ d = same-c (omega arith) in
+          let z : c ≡ d = same_c (omega arith) in
           rw (← z)
           (or_like (store_s i s) (λ o. store_like h₁ o)
           (λ p o.

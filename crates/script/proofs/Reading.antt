@@ -43,9 +43,9 @@ module _ (t : List ℕ) (v : Env) where
     pub fits : Words t → Inside v x
     pub ends : end ≡ at + size_s x
 
-  pub record StmtsAt (left : ℕ) (n : Nest) (so-many at : ℕ) (xs : Stmts) (end : ℕ) : Type 0 where
+  pub record StmtsAt (left : ℕ) (n : Nest) (so_many at : ℕ) (xs : Stmts) (end : ℕ) : Type 0 where
     pub is : from t at ≡ list_ss xs (from t end)
-    pub count : count_s xs ≡ so-many
+    pub count : count_s xs ≡ so_many
     pub deep : depth_ss xs ≤ left
     pub branches : ifs_all xs ≤ 8 - n.ifs
     pub loops : fors_all xs ≤ 8 - n.fors

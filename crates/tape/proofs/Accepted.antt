@@ -23,7 +23,7 @@ use Rattle.tape.proofs.Finished.{funcs_all, steps_length, sounds_all, Finished}
 use Rattle.tape.proofs.Stands.{Stands, program_due, array_due, function_due, body_due, nothing_due}
 use Rattle.tape.proofs.Postfix.{stands_next}
 
-pub record Program-of (t : List ℕ) (m : ℕ) : Type 0 where
+pub record ProgramOf (t : List ℕ) (m : ℕ) : Type 0 where
   pub program : CProgram
   pub is : code_of t ≡ instructions program
   pub words_are : t ≡ tape program
@@ -39,7 +39,7 @@ module _ (t : List ℕ) (m : ℕ) (p : Passed t m) where
 
   -- after the last function
   ended : (s : Scan) → Finished s.functions s.arrays s.known (code_of t) [] → length s.known ≡ s.functions
-      → within s.known (Accepted (known_at s (length s.known - 1)).steps) ≡ Accepted m → Program-of t m
+      → within s.known (Accepted (known_at s (length s.known - 1)).steps) ≡ Accepted m → ProgramOf t m
   unfolding instructions tape steps_of steps_exposed
   ended s d l e =
       let (each, last) = within_most s.known _ m e in
@@ -62,7 +62,7 @@ module _ (t : List ℕ) (m : ℕ) (p : Passed t m) where
             };
       }
 
-  ends : (s : Scan) (at : ℕ) → Stands (code_of t) [] s at → at_end (more s.due) s at ≡ Accepted m → Program-of t m
+  ends : (s : Scan) (at : ℕ) → Stands (code_of t) [] s at → at_end (more s.due) s at ≡ Accepted m → ProgramOf t m
   unfolding at_end more
   ends s at (program_due d is z) e = absurd (never (rw d at e))
   ends s at (array_due d ns h k l few is) e = absurd (never (rw d at e))
@@ -70,12 +70,12 @@ module _ (t : List ℕ) (m : ℕ) (p : Passed t m) where
   ends s at (body_due d b) e = absurd (never (rw d at e))
   ends s at (nothing_due d done l) e = ended s done l (rw d at e)
 
-  program_of : Program-of t m
+  program_of : ProgramOf t m
   program_of =
       let none = drop_of_length-le (code_of t) {i = records t} (omega (arith, code_length t)) in
       ends (scan_at t (records t)) (records t) (rw none at (stands_at (records t) (omega arith))) p.ends
 
-pub accepted_is_program : (t : List ℕ) (m : ℕ) → check t ≡ Accepted m → Program-of t m
+pub accepted_is_program : (t : List ℕ) (m : ℕ) → check t ≡ Accepted m → ProgramOf t m
 accepted_is_program t m e = program_of t m (passed t m e)
 
 -- each function's steps, by its number

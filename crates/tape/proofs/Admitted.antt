@@ -25,7 +25,7 @@ use Rattle.tape.proofs.Limits.{Each, none, one, FitsF, Limits}
 use Rattle.tape.proofs.Asked.{Met, just_iff}
 use Rattle.tape.proofs.Knowing.{Knows, knows_none, knows_steps, knows_length, knows_more, most_within}
 use Rattle.tape.proofs.Finished.{steps_length}
-use Rattle.tape.proofs.Accepted.{Program-of, accepted_is_program}
+use Rattle.tape.proofs.Accepted.{ProgramOf, accepted_is_program}
 use Rattle.tape.proofs.Scanning.{goes_on, body_of, s_scans}
 
 -- the scan comes from the code c in the state s to the code c₁, where w is due; the functions that it knows there have these parameters and steps
@@ -152,5 +152,5 @@ admitted p h l =
     rw (size, records_words xs) (scanned p h l)
 
 -- a tape is accepted exactly if it is the tape of such a tree
-pub accepted_exactly : (t : List ℕ) (m : ℕ) → (check t ≡ Accepted m) ↔ Program-of t m
+pub accepted_exactly : (t : List ℕ) (m : ℕ) → (check t ≡ Accepted m) ↔ ProgramOf t m
 accepted_exactly t m = (accepted_is_program t m, λ q. rw (q.words_are, q.steps) (admitted q.program q.sound q.limits))

@@ -21,7 +21,7 @@ use Rattle.tape.proofs.Reading.{code_from, code_length}
 use Rattle.tape.proofs.Places.{scan_at, Passed}
 use Rattle.tape.proofs.Declaring.{arrays_before, functions_before, length_at, lengths_all, entries_all}
 use Rattle.tape.proofs.Steady.{Fine, fine_at, both}
-use Rattle.tape.proofs.Entered.{began, Stands-at}
+use Rattle.tape.proofs.Entered.{began, StandsAt}
 use Rattle.tape.proofs.Positions.{placed_at, entry_there}
 
 over_by : (d : Due) (s : Scan) (n m : ℕ) → at_end (more d) s n ≡ Accepted m → d ≡ nothing
@@ -61,7 +61,7 @@ module _ (t : List ℕ) (m : ℕ) (a : Passed t m) where
     pub slots : ℕ
     pub index_is : suc index ≡ length (entries_of (code_of t))
     pub few : index < 16
-    pub there : Stands-at t index place params slots
+    pub there : StandsAt t index place params slots
     pub entry : exposed (code_of t) ≡ record { params = params; code = drop (suc place) (code_of t) }
 
   pub exposed_there : Exposed

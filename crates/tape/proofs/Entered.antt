@@ -57,7 +57,7 @@ began a_body k = suc k
 began nothing k = k
 
 -- the CFUNC of function f is record `place`
-pub record Stands-at (t : List ℕ) (f place params slots : ℕ) : Type 0 where
+pub record StandsAt (t : List ℕ) (f place params slots : ℕ) : Type 0 where
   pub there : place < records t
   pub is : read (record_at t place) ≡ cfunc params slots
   pub rank : length (scan_at t place).known ≡ f
@@ -66,8 +66,8 @@ pub record Stands-at (t : List ℕ) (f place params slots : ℕ) : Type 0 where
 -- of the state s before record i
 pub record Placed (t : List ℕ) (i : ℕ) (s : Scan) : Type 0 where
   pub begun : functions_before i (code_of t) ≡ began s.due (length s.known)
-  pub present : s.due ≡ a_body → Stands-at t (length s.known) s.place s.params s.slots
-  pub known : (f : ℕ) → f < length s.known → (q : ℕ) × Stands-at t f (known_at s f).place (known_at s f).params q
+  pub present : s.due ≡ a_body → StandsAt t (length s.known) s.place s.params s.slots
+  pub known : (f : ℕ) → f < length s.known → (q : ℕ) × StandsAt t f (known_at s f).place (known_at s f).params q
   pub arraying : s.due ≡ an_array → (suc (arrays_before i (code_of t)) ≡ i) × (i ≤ s.arrays)
   pub arrayed_all : (s.due ≡ a_function) ⊎ ((s.due ≡ a_body) ⊎ (s.due ≡ nothing)) → arrays_before i (code_of t) ≡ s.arrays
   pub first : s.due ≡ a_program → i ≡ 0

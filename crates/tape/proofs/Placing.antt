@@ -16,7 +16,7 @@ use Rattle.tape.specs.Scan.{Due, a_program, an_array, a_function, a_body, nothin
 use Rattle.tape.specs.Entries.{declares}
 use Rattle.tape.proofs.Places.{scan_at}
 use Rattle.tape.proofs.Declaring.{one_array, one_function, arrays_before, functions_before}
-use Rattle.tape.proofs.Entered.{began, Stands-at, Placed}
+use Rattle.tape.proofs.Entered.{began, StandsAt, Placed}
 
 -- two dues are not the same
 number : Due → ℕ
@@ -91,7 +91,7 @@ module _ (t : List ℕ) (i : ℕ) (h : i < records t) (s : Scan) (is : s ≡ sca
 
       -- a function that was known, or the present one
       among : (k : Known) → k ≡ finished s → (g : ℕ) → g < suc (length s.known)
-          → (q : ℕ) × Stands-at t g (get_or (s.known ++ (k ∷ [])) g none).place (get_or (s.known ++ (k ∷ [])) g none).params q
+          → (q : ℕ) × StandsAt t g (get_or (s.known ++ (k ∷ [])) g none).place (get_or (s.known ++ (k ∷ [])) g none).params q
       among k z g l =
           ⊎_elim
           (λ (v : g ≡ length s.known).

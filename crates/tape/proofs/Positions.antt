@@ -19,7 +19,7 @@ use Rattle.tape.proofs.Reading.{code_from}
 use Rattle.tape.proofs.Places.{scan_at, Clean, Passed}
 use Rattle.tape.proofs.Declaring.{one_array, one_function, functions_before, arrays_next, functions_next, entry_at_lem}
 use Rattle.tape.proofs.Steady.{both}
-use Rattle.tape.proofs.Entered.{is_body, is_function, is_array, is_program, began, Stands-at, Placed}
+use Rattle.tape.proofs.Entered.{is_body, is_function, is_array, is_program, began, StandsAt, Placed}
 use Rattle.tape.proofs.Placing.{Counts, in_body_lem, ended, entered, listed, began_it}
 
 placed_start : (t : List ℕ) → Placed t 0 start
@@ -95,7 +95,7 @@ placed_at t m a zero h = placed_start t
 placed_at t m a (suc i) h = placed_next t i h (a.faultless i h) (placed_at t m a i (omega arith))
 
 -- ---- the entry and the place of a function whose CFUNC is there
-module _ (t : List ℕ) (m : ℕ) (a : Passed t m) {f place params slots : ℕ} (there : Stands-at t f place params slots) where
+module _ (t : List ℕ) (m : ℕ) (a : Passed t m) {f place params slots : ℕ} (there : StandsAt t f place params slots) where
   pub code_there : drop place (code_of t) ≡ cfunc params slots ∷ drop (suc place) (code_of t)
   code_there = code_from t place there.there ∙ ap (λ (i : Instruction). i ∷ drop (suc place) (code_of t)) there.is
 

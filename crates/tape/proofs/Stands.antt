@@ -146,12 +146,12 @@ module _ {whole rest : Code} where
   unfolding next returns steps_f half_tape levels_tape stack_tape tape_f
   on_ret s at x b l flat alone seen =
       let h = b.half in
-      let (no-levels, begins) = outside h.nested flat in
+      let (no_levels, begins) = outside h.nested flat in
       let f : CFunc = record { params = s.params; slots = s.slots; body = h.body; ret = x } in
-      let is : b.from ≡ tape_f f rest = rw alone at (rw no-levels at b.is) in
+      let is : b.from ≡ tape_f f rest = rw alone at (rw no_levels at b.is) in
       let sound : SoundF _ _ f = record { body = rw begins at h.sound; ret = rw begins at (rw h.scope at seen) } in
       let fits : FitsF s.arrays f =
-      record { params = b.few_params; among = b.among; slots = b.few_slots; body = rw no-levels at h.fits; ret = l } in
+      record { params = b.few_params; among = b.among; slots = b.few_slots; body = rw no_levels at h.fits; ret = l } in
       let done = rw (← whole_steps h alone) at (finish f s.place b.done is sound fits) in
       let g : Known = record { params = s.params; steps = suc s.body.steps; place = s.place } in
       let n = suc (length s.known) in

@@ -38,9 +38,9 @@ walked : (t : ℕ) (c : statement-After-expressions t) (d : ℕ) (inner : Nest) 
     d ≡ statements_in (read_s x) → inner ≡ inside (nested a.round) (read_s x) →
     walk_of (parse_s a.left (nested a.round) e a.table.now a.at.at) ≡
     step c.expressions.result (λ j. walk_of (sequence (parse_s (a.left - 1) inner e a.table.now) d j))
-walked t c d inner so-many round =
+walked t c d inner so_many round =
     let none = sym (c.statement_fault-number.ensures _ _) ∙ c.if-number-ne0.false in
-    statement_walk _ _ _ _ _ _ (sym c.next.ensures ∙ c.in-Found.is) _ _ d inner _ none (sym c.nests.ensures ∙ c.if-not-nests.false) c.expressions_in.ensures so-many round c.expressions.ensures
+    statement_walk _ _ _ _ _ _ (sym c.next.ensures ∙ c.in-Found.is) _ _ d inner _ none (sym c.nests.ensures ∙ c.if-not-nests.false) c.expressions_in.ensures so_many round c.expressions.ensures
 
 -- at the loop's head: what is left of the run
 rest : (t : ℕ) (c : statements-At-loop-i t) →

@@ -1,15 +1,33 @@
-// Words: values with their operators, and the four-word records of tables and tapes.
+// Words: values with their operators, the four-word records of tables and tapes, and how a table or a tape is refused.
 #![tactic(auto)]
+
+ghost use Rattle.std.specs.Prelude.{◌≡◌};
+ghost use Rattle.word.specs.Records.{sized};
 
 pub mod operators;
 pub mod reader;
 pub mod sets;
 
 // Four words to a record.
-#[derive(Clone, Copy)]
+#[derive(Clone, Copy, Debug, PartialEq, Eq)]
 pub struct Record {
     pub kind: u32,
     pub p: u32,
     pub q: u32,
     pub r: u32,
+}
+
+// Why a table, a tape or a run is refused: the number of the first condition that fails, and the place of what fails it.
+#[derive(Clone, Copy, Debug, PartialEq, Eq)]
+pub struct Refusal {
+    pub number: u32,
+    pub place: usize,
+}
+
+// Whether so many words are whole records, one at least and so many at most.
+#[tactic(auto, unfolding(crate::specs::Records::sized))]
+pub fn sized(most: usize, words: usize) -> bool
+    ensures { result ≡ sized most words }
+{
+    (words != 0) & ((words % 4 == 0) & (words / 4 <= most))
 }

@@ -1,4 +1,6 @@
 // The operators on words, each by the definition of its name, and one entry by operation code. They assume nothing of their operands.
+#![tactic(auto, using(std::proofs::lemmas::Bool::Decides::nat_tests), unfolding(crate::specs::Value::op, crate::specs::Value::flip, crate::specs::Value::truth, crate::specs::Value::left, crate::specs::Value::left_by, crate::specs::Value::right, crate::specs::Value::right_by))]
+
 ghost use Rattle.std.specs.Prelude.{◌≡◌};
 ghost use Rattle.word.specs.Value.{Op, add, sub, mul, shl, shr, and, or, eq, ne, gt, lt, ge, le, land, lor, op, flip, negate, mask};
 ghost use Rattle.word.specs.Code.{op_of};
@@ -10,13 +12,13 @@ pub const FALSE: u32 = 0;
 pub fn plus(a: u32, b: u32) -> u32
     ensures { result ≡ op add a b }
 {
-    std::num::wrapping_add_u32(a, b)
+    a.wrapping_add(b)
 }
 
 pub fn minus(a: u32, b: u32) -> u32
     ensures { result ≡ op sub a b }
 {
-    std::num::wrapping_sub_u32(a, b)
+    a.wrapping_sub(b)
 }
 
 // The product is worked out in 64 bits, where it fits, and its low half kept.
@@ -29,11 +31,7 @@ pub fn times(a: u32, b: u32) -> u32
 pub fn shift_left(a: u32, n: u32) -> u32
     ensures { result ≡ op shl a n }
 {
-    if n < 32 {
-        (((a as u64) << n) % 4294967296) as u32
-    } else {
-        0
-    }
+    if n < 32 { a << n } else { 0 }
 }
 
 pub fn shift_right(a: u32, n: u32) -> u32
@@ -58,7 +56,7 @@ pub fn either(a: u32, b: u32) -> u32
 pub fn complement(a: u32) -> u32
     ensures { result ≡ flip a }
 {
-    TRUE - a
+    !a
 }
 
 // A test as a full mask.
@@ -118,6 +116,7 @@ pub fn logical_or(a: u32, b: u32) -> u32
 }
 
 // The operator with this code.
+#[tactic(auto, unfolding(crate::specs::Code::op_of))]
 pub fn apply(code: u32, a: u32, b: u32) -> u32
     ensures { result ≡ op (op_of code) a b }
 {

@@ -5,16 +5,9 @@ ghost use Rattle.word.specs.Reader.{read_at};
 use crate::Record;
 
 // The record that it stands at.
-#[derive(Clone, Copy)]
+#[derive(Clone, Copy, Debug, PartialEq, Eq)]
 pub struct Reader {
     pub at: usize,
-}
-
-// What reading finds: a record, with the cursor past it; or the end.
-#[derive(Clone, Copy)]
-pub enum Read {
-    Found(Record, Reader),
-    End,
 }
 
 impl Reader {
@@ -24,23 +17,23 @@ impl Reader {
         Reader { at: 0 }
     }
 
-    pub fn next(self, words: &[u32]) -> Read
+    // The record, with the cursor past it; or none, at the end.
+    #[tactic(auto, using(std::proofs::lemmas::Bool::Decides::nat_tests), unfolding(crate::specs::Reader::read_at, crate::specs::Reader::found_if))]
+    pub fn next(self, words: &[u32]) -> Option<(Record, Reader)>
         ensures { result ≡ read_at words.now self.at }
     {
         let at = self.at;
         if at < words.len() / 4 {
             let b = at * 4;
-            Read::Found(
-                Record {
-                    kind: words[b],
-                    p: words[b + 1],
-                    q: words[b + 2],
-                    r: words[b + 3],
-                },
-                Reader { at: at + 1 },
-            )
+            let record = Record {
+                kind: words[b],
+                p: words[b + 1],
+                q: words[b + 2],
+                r: words[b + 3],
+            };
+            Some((record, Reader { at: at + 1 }))
         } else {
-            Read::End
+            None
         }
     }
 }

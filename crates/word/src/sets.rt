@@ -2,6 +2,7 @@
 ghost use Rattle.std.specs.Prelude.{◌≡◌, ◌<◌};
 ghost use Rattle.word.specs.Sets.{has, toggle, put, below};
 
+#[tactic(auto, using(std::proofs::lemmas::Bool::Decides::nat_tests), unfolding(crate::specs::Sets::has))]
 pub fn has(members: u32, p: u32) -> bool
     ensures { result ≡ has members p }
 {
@@ -20,6 +21,7 @@ fn toggle(members: u32, p: u32) -> u32
 }
 
 // The set in which p is a member or not, as told, and every other slot as before.
+#[tactic(auto, using(std::proofs::lemmas::Bool::Decides::nat_tests), unfolding(crate::specs::Sets::put, crate::specs::Sets::turned))]
 pub fn put(members: u32, p: u32, member: bool) -> u32
     ensures { result ≡ put members p member }
 {
@@ -34,14 +36,13 @@ pub fn put(members: u32, p: u32, member: bool) -> u32
 }
 
 // The slots below n.
+#[tactic(auto, unfolding(crate::specs::Sets::below))]
 pub fn below(n: u32) -> u32
     ensures { result ≡ below n }
 {
     let mut members = 0u32;
-    let mut p = 0u32;
-    while p < n {
+    for p in 0..n {
         members = put(members, p, true);
-        p += 1;
     }
     members
 }

@@ -1,10 +1,7 @@
--- `word::sets::below` meets its contract: after p turns the slots below p are in the set. Assumes nothing.
-use Rattle.std.proofs.Common.{◌≡◌, ◌-◌, ◌≤◌}
+-- `word::sets::below`: after p turns the slots below p are in the set. Assumes nothing.
+use Rattle.std.proofs.Common.{◌≡◌}
 use Rattle.word.specs.Sets.{below}
 use Rattle.word.proofs.sets.below.Given as goal
 
 abbrev pub invariant-loop-p : goal.invariant-loop-p
-invariant-loop-p l = (l.p ≤ l.n) × (l.members ≡ below l.p)
-
-abbrev pub decreases-loop-p : goal.decreases-loop-p
-decreases-loop-p l = l.n - l.p
+invariant-loop-p l = l.members ≡ below l.p

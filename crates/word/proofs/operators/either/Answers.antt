@@ -1,8 +1,0 @@
--- `word::operators::either` meets its contract, by computation. Assumes nothing.
-use Rattle.std.proofs.Common.{rules}
-use Rattle.word.specs.Value.{op}
-use Rattle.word.proofs.operators.either.Goals as goal
-
-pub returns : goal.returns
-unfolding op
-returns c = search rules

@@ -13,11 +13,11 @@ use Rattle.tape.specs.Steps.{most}
 use Rattle.tape.specs.Scan.{Known, Open, Scan, known_at, leaves, states, opens, close_by, closes, in_body, arrayed, enters, returns, next}
 use Rattle.tape.specs.Faults.{more, takes, just, asks, fault}
 use Rattle.tape.specs.Check.{unless_over, within, at_end, judge, scan}
-use Rattle.tape.specs.declared.Checked.{Checked}
-use Rattle.tape.specs.declared.Checked.TheVariants.{Accepted}
+use Rattle.tape.specs.Check.{Checked}
 use Rattle.checker.specs.Ready.{Within}
 use Rattle.tape.specs.Held.{hold, hold_known, hold_open, held}
 use Rattle.tape.proofs.Counts.{hold_within, hold_add, hold_add_right, hold_hold, hold_suc, hold_loop, hold_leb}
+use Rattle.std.specs.Prelude.{Ok, Err}
 
 abbrev nobody : Known
 nobody = record { params = 0; steps = 0; place = 0 }
@@ -136,10 +136,10 @@ known_within_held [] r = refl
 known_within_held (k ∷ ks) r = rw (hold_leb k.steps, known_within_held ks r)
 
 -- a function's steps are over the limit, or they are what is held
-answer_held : (ks : List Known) (f : ℕ) → within ks (Accepted (hold (get_or ks f nobody).steps)) ≡ within ks (Accepted (get_or ks f nobody).steps)
+answer_held : (ks : List Known) (f : ℕ) → within ks (Ok (hold (get_or ks f nobody).steps)) ≡ within ks (Ok (get_or ks f nobody).steps)
 unfolding within
 answer_held [] f = unfold hold in refl
-answer_held (k ∷ ks) zero = unless_over_held _ _ _ _ (λ e. ap (λ (n : ℕ). within ks (Accepted n)) (hold_within k.steps (leb-true k.steps most e)))
+answer_held (k ∷ ks) zero = unless_over_held _ _ _ _ (λ e. ap (λ (n : ℕ). within ks (Ok n)) (hold_within k.steps (leb-true k.steps most e)))
 answer_held (k ∷ ks) (suc f) = unless_over_held _ _ _ _ (λ e. answer_held ks f)
 
 end_held : (b : Bool) (s : Scan) (at : ℕ) → at_end b (held s) at ≡ at_end b s at
@@ -147,8 +147,8 @@ unfolding at_end held
 end_held true s at = refl
 end_held false s at =
     known_within_held s.known _
-    ∙ ap (λ (n : ℕ). within s.known (Accepted (get_or (map hold_known s.known) (n - 1) nobody).steps)) (length-map s.known hold_known)
-    ∙ ap (λ (k : Known). within s.known (Accepted k.steps)) (known_held s.known (length s.known - 1))
+    ∙ ap (λ (n : ℕ). within s.known (Ok (get_or (map hold_known s.known) (n - 1) nobody).steps)) (length-map s.known hold_known)
+    ∙ ap (λ (k : Known). within s.known (Ok k.steps)) (known_held s.known (length s.known - 1))
     ∙ (unfold hold_known in answer_held s.known (length s.known - 1))
 
 -- ---- the whole scan

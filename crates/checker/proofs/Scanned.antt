@@ -10,7 +10,7 @@ use Rattle.tape.specs.Instruction.{read}
 use Rattle.tape.specs.Scan.{Scan, start, next}
 use Rattle.tape.specs.Faults.{more, fault}
 use Rattle.tape.specs.Check.{at_end, judge, scan}
-use Rattle.tape.specs.declared.Checked.{Checked}
+use Rattle.tape.specs.Check.{Checked}
 use Rattle.checker.specs.declared.standing.Standing.{Standing}
 use Rattle.tape.specs.Held.{held}
 use Rattle.checker.specs.Standing.{Functions, Bodies, due_of, scan_of}

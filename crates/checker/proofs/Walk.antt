@@ -16,15 +16,16 @@ use Rattle.tape.specs.Steps.{most}
 use Rattle.tape.specs.Scan.{Due, a_program, an_array, a_function, a_body, nothing, Known, Scan, next}
 use Rattle.tape.specs.Faults.{more, fault}
 use Rattle.tape.specs.Check.{unless_over, within, at_end, judge, scan}
-use Rattle.tape.specs.declared.Checked.{Checked}
-use Rattle.tape.specs.declared.Checked.TheVariants.{Accepted, Refused}
+use Rattle.tape.specs.Check.{Checked}
 use Rattle.checker.specs.declared.standing.Standing.{Standing}
 use Rattle.checker.specs.Standing.{Functions, Bodies, due_of, known_of, known_to, scan_of}
 use Rattle.checker.specs.Ready.{Room, FirstOver}
 use Rattle.checker.proofs.Rows.{known_length, known_at_lem}
+use Rattle.std.specs.Prelude.{Ok, Err}
+use Rattle.word.specs.Refusals.{refuse}
 
 -- ---- the scan
-pub judge_refused : (n at : ℕ) (r : Checked) → (n ≡ 0 → ⊥) → judge n at r ≡ Refused n at
+pub judge_refused : (n at : ℕ) (r : Checked) → (n ≡ 0 → ⊥) → judge n at r ≡ refuse n at
 unfolding judge
 judge_refused zero at r h = absurd (h refl)
 judge_refused (suc n) at r h = refl
@@ -59,7 +60,7 @@ module _ (f : Functions) where
       ∙ rw (le-leb (get_or f.steps n 0) most (h n (omega arith))) refl
 
   pub one_over : (n i : ℕ) (r : Checked) → i < n → ((j : ℕ) → j < i → get_or f.steps j 0 ≤ most) → most < get_or f.steps i 0
-      → within (known_to f n) r ≡ Refused 30 (get_or f.places i 0)
+      → within (known_to f n) r ≡ refuse 30 (get_or f.places i 0)
   unfolding known_to within unless_over
   one_over zero i r l h o = absurd (omega arith)
   one_over (suc n) i r l h o =
@@ -77,11 +78,11 @@ room_end a_body k n e r = absurd (true≢false e)
 room_end nothing k n e r = r
 
 module _ (s : Standing) (f : Functions) (b : Bodies) (at : ℕ) (ends : more (due_of s.due) ≡ false) where
-  pub end_over : (i : ℕ) → i < s.known → FirstOver f.steps s.known i → at_end (more (due_of s.due)) (scan_of s f b) at ≡ Refused 30 (get_or f.places i 0)
+  pub end_over : (i : ℕ) → i < s.known → FirstOver f.steps s.known i → at_end (more (due_of s.due)) (scan_of s f b) at ≡ refuse 30 (get_or f.places i 0)
   unfolding at_end scan_of
   end_over i l h = rw ends (one_over f s.known i _ l h.before (h.over l))
 
-  pub end_within : (i : ℕ) → s.known ≤ i → 0 < s.known → FirstOver f.steps s.known i → at_end (more (due_of s.due)) (scan_of s f b) at ≡ Accepted (get_or f.steps (s.known - 1) 0)
+  pub end_within : (i : ℕ) → s.known ≤ i → 0 < s.known → FirstOver f.steps s.known i → at_end (more (due_of s.due)) (scan_of s f b) at ≡ Ok (get_or f.steps (s.known - 1) 0)
   unfolding at_end scan_of
   end_within i l some h =
       let last = ap (λ (k : Known). k.steps) (known_at_lem f s.known (s.known - 1) (omega arith)) in

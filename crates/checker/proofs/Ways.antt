@@ -15,7 +15,7 @@ use Rattle.word.proofs.Walk.{read_found, read_end}
 use Rattle.tape.specs.Scan.{start}
 use Rattle.tape.specs.Faults.{more, fault}
 use Rattle.tape.specs.Check.{at_end, judge, scan}
-use Rattle.tape.specs.declared.Checked.{Checked}
+use Rattle.tape.specs.Check.{Checked}
 use Rattle.checker.specs.declared.standing.Standing.{Standing}
 use Rattle.checker.specs.Standing.{Functions, Bodies, due_of, rank, shown_by, searched_of, least_of, most_of, scope_at, scan_of}
 use Rattle.checker.specs.Ready.{Room, fault_but}

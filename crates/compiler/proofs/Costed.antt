@@ -19,8 +19,7 @@ use Rattle.script.specs.Types.{type_f}
 use Rattle.script.specs.Stores.{stores as storage}
 use Rattle.script.specs.Parse.{parsed, read_table}
 use Rattle.script.specs.Written.{list_arrays, listing, table, Within}
-use Rattle.script.specs.declared.First.{First}
-use Rattle.script.specs.declared.First.TheVariants.{Clean, Fault}
+use Rattle.script.specs.Stage.{First}
 use Rattle.script.proofs.Leading.{from}
 use Rattle.script.proofs.Exactly.{written_read}
 use Rattle.scoping.proofs.Found.{finds}
@@ -35,12 +34,13 @@ use Rattle.emitting.specs.Walking.{Desk, desk, times}
 use Rattle.costing.specs.Totals.{cost_of}
 use Rattle.costing.proofs.Totalled.{tape_records, counted_is, twelve, deeps_are}
 use Rattle.compiler.specs.Writing.{rolls, copy, walk_fs, blank, walk_p, answered, known, write_out}
-use Rattle.translation.specs.declared.Compiled.TheVariants.{Refused}
 use Rattle.compiler.proofs.Tables.{copy_found, walk_p_found, answers_12, answers_13, answers_tape}
 use Rattle.compiler.proofs.Laying.{run, bare, run_fits}
 use Rattle.compiler.proofs.Rolling.{code_fs, funcs_walked}
 use Rattle.compiler.proofs.Depths.{Right, deeps_right, code_right, code_records}
 use Rattle.translation.proofs.Sizes.{tape_most}
+use Rattle.std.specs.Prelude.{Ok, Err}
+use Rattle.word.specs.Refusals.{refuse}
 
 -- ---- PROGRAM and the arrays
 lay_a : List ℕ → Sheet → Sheet
@@ -116,10 +116,10 @@ module _ (t : List ℕ) (p : Program) (w : Within p) (is : records_of t ≡ list
       let fits = run_fits (code_p deeps p) out 0 (few deeps) (omega (arith, code_p_records deeps, tape_words)) in
       table_walked deeps out ∙ ap (λ (s : Sheet). s.words) fits ∙ ap (λ (c : Code). sets out 0 (words c)) (code_p_right right)
 
-cost_last : (r : First) → or_else r Clean ≡ r
+cost_last : (r : First) → or_else r (Ok tt) ≡ r
 unfolding or_else
-cost_last Clean = refl
-cost_last (Fault number place) = refl
+cost_last (Ok u) = refl
+cost_last (Err r) = refl
 
 -- ---- a table that was read
 module _ (t : List ℕ) (w : Words t) (p : Program) (i : ℕ) (e : read_table t ≡ parsed p i) where
@@ -135,7 +135,7 @@ module _ (t : List ℕ) (w : Words t) (p : Program) (i : ℕ) (e : read_table t 
   cost_is r c = counted_is t w p i e (replicate 16 0) ∙ ap (λ (f : First). cost_of f (records (tape (translate p))) (steps_exposed (translate p))) c
 
   -- the tape's words
-  pub emitted_is : costs p ≡ Clean → (out : List ℕ) → length (tape (translate p)) ≤ length out
+  pub emitted_is : costs p ≡ Ok tt → (out : List ℕ) → length (tape (translate p)) ≤ length out
       → walk_p t (known t).depths out ≡ sets out 0 (tape (translate p))
   emitted_is clean out room =
       let row : List ℕ = replicate 16 0 in
@@ -143,26 +143,26 @@ module _ (t : List ℕ) (w : Words t) (p : Program) (i : ℕ) (e : read_table t 
       wet_words t p within_ranges stands (known t).depths out right room
 
   -- ---- the answer, by the cost
-  wet_answer : (out : List ℕ) (b : Bool) → leb (length (tape (translate p))) (length out) ≡ b → costs p ≡ Clean → write_out t out ≡ written b p out
+  wet_answer : (out : List ℕ) (b : Bool) → leb (length (tape (translate p))) (length out) ≡ b → costs p ≡ Ok tt → write_out t out ≡ written b p out
   unfolding written cost_of
   wet_answer out true h clean =
       let room = leb-true (length (tape (translate p))) (length out) h in
-      answers_tape t out _ _ (cost_is Clean clean) (omega (arith, tape_records p, tape_words t p within_ranges stands)) ∙ ap (answered _) (emitted_is clean out room)
+      answers_tape t out _ _ (cost_is (Ok tt) clean) (omega (arith, tape_records p, tape_words t p within_ranges stands)) ∙ ap (answered _) (emitted_is clean out room)
   wet_answer out false h clean =
       let short = leb-false (length (tape (translate p))) (length out) h in
-      answers_13 t out _ _ (cost_is Clean clean) (omega (arith, tape_records p, tape_words t p within_ranges stands))
+      answers_13 t out _ _ (cost_is (Ok tt) clean) (omega (arith, tape_records p, tape_words t p within_ranges stands))
 
   answer_by : (out : List ℕ) (r : First) → costs p ≡ r → write_out t out ≡ unless_fault r p out
   unfolding unless_fault cost_of
-  answer_by out Clean c = wet_answer out (leb (length (tape (translate p))) (length out)) refl c
-  answer_by out (Fault number place) c =
-      answers_12 t out place (cost_is (Fault number place) c) ∙ ap (λ (k : ℕ). answered (Refused k place) out) (sym (twelve t w p i e (replicate 16 0) number place c))
+  answer_by out (Ok u) c = wet_answer out (leb (length (tape (translate p))) (length out)) refl c
+  answer_by out (Err r) c =
+      answers_12 t out place (cost_is (refuse number place) c) ∙ ap (λ (k : ℕ). answered (refuse k place) out) (sym (twelve t w p i e (replicate 16 0) number place c))
 
   -- 12, 13, or the tape
   pub written_is : (out : List ℕ) → write_out t out ≡ unless_fault (costs p) p out
   written_is out = answer_by out (costs p) refl
 
   -- where no stage before it finds a fault, this is the compiler's whole answer
-  pub compiled_is : over_program scope_f p ≡ Clean → over_program type_f p ≡ Clean → storage p ≡ Clean → (out : List ℕ) → write_out t out ≡ compile t out
+  pub compiled_is : over_program scope_f p ≡ Ok tt → over_program type_f p ≡ Ok tt → storage p ≡ Ok tt → (out : List ℕ) → write_out t out ≡ compile t out
   unfolding compile compile_by stages first_of or_else
   compiled_is scope types stored out = written_is out ∙ rw (e, scope, types, stored, cost_last (costs p)) refl

@@ -13,9 +13,11 @@ use Rattle.emitting.specs.Emitting.{sheet, place}
 use Rattle.emitting.specs.Walking.{Desk, desk, times}
 use Rattle.compiler.specs.Writing.{Rolls, rolls, copy_by, copy, body_of, enter_f, walk_f, walk_fs, blank, enter_p, walk_p, answered, fitting, unless_cost, known, write_out}
 use Rattle.emitting.specs.declared.emitter.Emitter.{Emitter}
-use Rattle.translation.specs.declared.Compiled.TheVariants.{Tape, Refused}
 use Rattle.costing.specs.declared.Cost.{Cost}
 use Rattle.costing.specs.declared.Cost.TheVariants.{Within, Over}
+use Rattle.std.specs.Prelude.{Ok, Err}
+use Rattle.word.specs.Refusals.{refuse}
+use Rattle.translation.specs.Compile.{announced}
 
 -- ---- a whole table
 module _ (t : List ℕ) where
@@ -66,15 +68,15 @@ start_is out e i p r = λ j. desk (record { words = out; at = p j }) (r j)
 
 -- ---- the answer
 module _ (t out : List ℕ) where
-  pub answers_12 : (place : ℕ) → (known t).cost ≡ Over place → write_out t out ≡ answered (Refused 12 place) out
+  pub answers_12 : (place : ℕ) → (known t).cost ≡ Over place → write_out t out ≡ answered (refuse 12 place) out
   unfolding write_out unless_cost
   answers_12 place e = ap (λ (k : Cost). unless_cost t out k (known t).depths) e
 
   module _ (r s : ℕ) (e : (known t).cost ≡ Within r s) where
-    pub answers_13 : length out < r * 4 → write_out t out ≡ answered (Refused 13 r) out
+    pub answers_13 : length out < r * 4 → write_out t out ≡ answered (refuse 13 r) out
     unfolding write_out unless_cost fitting
     answers_13 h = ap (λ (k : Cost). unless_cost t out k (known t).depths) e ∙ rw (lt-leb (r * 4) (length out) h) refl
 
-    pub answers_tape : r * 4 ≤ length out → write_out t out ≡ answered (Tape r s) (walk_p t (known t).depths out)
+    pub answers_tape : r * 4 ≤ length out → write_out t out ≡ answered (Ok (announced r s)) (walk_p t (known t).depths out)
     unfolding write_out unless_cost fitting
     answers_tape h = ap (λ (k : Cost). unless_cost t out k (known t).depths) e ∙ rw (le-leb (r * 4) (length out) h) refl

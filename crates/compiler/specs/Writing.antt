@@ -14,10 +14,12 @@ use Rattle.translation.specs.Translate.{layout}
 use Rattle.translation.specs.Compile.{Result}
 use Rattle.emitting.specs.Emitting.{Sheet, place, puts}
 use Rattle.emitting.specs.Walking.{Desk, desk, on, times, walk_s}
-use Rattle.translation.specs.declared.Compiled.{Compiled}
-use Rattle.translation.specs.declared.Compiled.TheVariants.{Tape, Refused}
+use Rattle.translation.specs.Compile.{Compiled}
 use Rattle.costing.specs.declared.Cost.{Cost}
 use Rattle.costing.specs.declared.Cost.TheVariants.{Within, Over}
+use Rattle.std.specs.Prelude.{Ok, Err}
+use Rattle.word.specs.Refusals.{refuse}
+use Rattle.translation.specs.Compile.{announced}
 
 abbrev pub blank : List ℕ → Sheet
 blank out = record { words = out; at = 0 }
@@ -74,12 +76,12 @@ abbrev pub answered : Compiled → List ℕ → Result
 answered r out = record { answer = r; out = out }
 
 unfoldable pub fitting : Bool → List ℕ → List ℕ → ℕ → ℕ → List ℕ → Result
-fitting true t depths records steps out = answered (Tape records steps) (walk_p t depths out)
-fitting false t depths records steps out = answered (Refused 13 records) out
+fitting true t depths records steps out = answered (Ok (announced records steps)) (walk_p t depths out)
+fitting false t depths records steps out = answered (refuse 13 records) out
 
 unfoldable pub unless_cost : List ℕ → List ℕ → Cost → List ℕ → Result
 unless_cost t out (Within records steps) depths = fitting (leb (records * 4) (length out)) t depths records steps out
-unless_cost t out (Over at) depths = answered (Refused 12 at) out
+unless_cost t out (Over at) depths = answered (refuse 12 at) out
 
 -- the cost, and the deepest IF nestings, which the walk finds as they were counted
 abbrev pub known : List ℕ → Known

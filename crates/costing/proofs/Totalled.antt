@@ -18,8 +18,7 @@ use Rattle.script.specs.Parse.{parsed, entered, passed, read_table}
 use Rattle.script.specs.Stage.{first_func}
 use Rattle.script.specs.Written.{list_s, list_funcs, head_of, InFunc, InFuncs, none_left, one_more}
 use Rattle.script.specs.declared.Env.{Env}
-use Rattle.script.specs.declared.First.{First}
-use Rattle.script.specs.declared.First.TheVariants.{Clean, Fault}
+use Rattle.script.specs.Stage.{First}
 use Rattle.script.proofs.Leading.{from}
 use Rattle.script.proofs.Walks.{faulty}
 use Rattle.script.proofs.Sizes.{size_fs, listing_size}
@@ -46,6 +45,8 @@ use Rattle.costing.proofs.Turns.{function_found}
 use Rattle.costing.proofs.Tallying.{alike, add_held}
 use Rattle.costing.proofs.Counted.{stmt_counted}
 use Rattle.costing.proofs.Kept.{rest_from, steps_rest, Says, says_more, deeps_after}
+use Rattle.std.specs.Prelude.{Ok, Err}
+use Rattle.word.specs.Refusals.{refuse}
 
 -- a row keeps what is noted of the first sixteen
 keeps : (row : List ℕ) (f n : ℕ) → f < 16 → noted row f n ≡ keep row f n
@@ -86,9 +87,9 @@ module _ (t : List ℕ) where
 -- ---- all functions
 -- it agrees with 12: the figures, or the function that is over
 pub record Tells (r : First) (o : Outcome) (deeps : List ℕ) (f : ℕ) (fs : List Func) (known : List ℕ) (records steps : ℕ) : Type 0 where
-  pub clean : r ≡ Clean
+  pub clean : r ≡ Ok tt
       → o ≡ outcome (Kept (hold (records + records_fs (map FDEFT fs))) (get_or (steps ∷ rest_from known (map FDEFT fs)) (length fs) 0)) (deeps_after deeps f fs)
-  pub over : (number place : ℕ) → r ≡ Fault number place → (number ≡ 12) × (o.cost ≡ Over place)
+  pub over : (number place : ℕ) → r ≡ refuse number place → (number ≡ 12) × (o.cost ≡ Over place)
 
 -- none
 tells_none : (t κ deeps known params : List ℕ) (c : Count) (at f : ℕ) → hold c.steps ≡ c.steps
@@ -189,7 +190,7 @@ module _ (t : List ℕ) (w : Words t) (p : Program) (i : ℕ) (e : read_table t 
       (omega (arith, within_ranges.short, listing_size p)) (hold_within 0 (omega arith)) in
       rw (first, steps_rest [] (map FDEFT p.funcs)) a
 
-  clean_is : costs p ≡ Clean → counted t deeps ≡ outcome (Kept (records (tape (translate p))) (steps_exposed (translate p))) (deeps_after deeps 0 p.funcs)
+  clean_is : costs p ≡ Ok tt → counted t deeps ≡ outcome (Kept (records (tape (translate p))) (steps_exposed (translate p))) (deeps_after deeps 0 p.funcs)
   unfolding first_func translate
   clean_is clean =
       let (is, within_ranges) = lists t p i w e in
@@ -200,16 +201,16 @@ module _ (t : List ℕ) (w : Words t) (p : Program) (i : ℕ) (e : read_table t 
 
   cost_by : (r : First) → costs p ≡ r → (counted t deeps).cost ≡ cost_of r (records (tape (translate p))) (steps_exposed (translate p))
   unfolding cost_of
-  cost_by Clean c = ap (λ (o : Outcome). o.cost) (clean_is c)
-  cost_by (Fault number place) c = (whole.over number place c).1
+  cost_by (Ok u) c = ap (λ (o : Outcome). o.cost) (clean_is c)
+  cost_by (Err r) c = (whole.over r.number r.place c).1
 
   -- the cost: 12, or the records needed and the exposed function's steps
   pub counted_is : (counted t deeps).cost ≡ cost_of (costs p) (records (tape (translate p))) (steps_exposed (translate p))
   counted_is = cost_by (costs p) refl
 
-  pub twelve : (number place : ℕ) → costs p ≡ Fault number place → number ≡ 12
+  pub twelve : (number place : ℕ) → costs p ≡ refuse number place → number ≡ 12
   twelve number place c = (whole.over number place c).0
 
   -- the row of deepest IF nestings
-  pub deeps_are : costs p ≡ Clean → (counted t deeps).depths ≡ deeps_after deeps 0 p.funcs
+  pub deeps_are : costs p ≡ Ok tt → (counted t deeps).depths ≡ deeps_after deeps 0 p.funcs
   deeps_are c = ap (λ (o : Outcome). o.depths) (clean_is c)

@@ -4,8 +4,7 @@ use Rattle.word.specs.Reader.{read_at}
 use Rattle.word.specs.declared.Record.{Record}
 use Rattle.word.specs.declared.reader.Read.{Read}
 use Rattle.word.specs.declared.reader.Read.TheVariants.{Found, End}
-use Rattle.script.specs.declared.First.{First}
-use Rattle.script.specs.declared.First.TheVariants.{Clean, Fault}
+use Rattle.script.specs.Stage.{First}
 use Rattle.scoping.specs.Passes.{heading, noted}
 use Rattle.tape.specs.Steps.{most}
 use Rattle.tape.specs.Held.{hold}
@@ -13,6 +12,8 @@ use Rattle.costing.specs.Counting.{count, statement}
 use Rattle.costing.specs.declared.count.Count.{Count}
 use Rattle.costing.specs.declared.Cost.{Cost}
 use Rattle.costing.specs.declared.Cost.TheVariants.{Within, Over}
+use Rattle.std.specs.Prelude.{Ok, Err}
+use Rattle.word.specs.Refusals.{refuse}
 
 -- the count, and of each function so far the parameters, the steps and the deepest IF nesting
 pub record Totals : Type 0 where
@@ -65,5 +66,5 @@ counted t depths =
 
 -- what 12 says of a program, and the figures that go with it
 unfoldable pub cost_of : First → ℕ → ℕ → Cost
-cost_of Clean records steps = Within records steps
-cost_of (Fault number place) records steps = Over place
+cost_of (Ok u) records steps = Within records steps
+cost_of (Err r) records steps = Over r.place

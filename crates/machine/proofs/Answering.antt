@@ -28,6 +28,7 @@ use Rattle.machine.proofs.KeepsValues.{Running}
 use Rattle.machine.proofs.KeepsEnds.{Innermost, innermost}
 use Rattle.machine.proofs.Keeps.{body_kind, looping, ready}
 use Rattle.machine.proofs.Going.{Along, rests, quiet_is}
+use Rattle.std.specs.Prelude.{Ok, Err}
 
 -- a record that counts, and begins no further pass, counts where it stands
 here_by : (b : Bool) (all : ℕ) (c : Code) → place_by all (turn_for b) c ≡ all - length c
@@ -147,4 +148,4 @@ module _ (t : List ℕ) (m : ℕ) (a : Passed t m) (funcs arguments memory : Lis
           ap (λ (c : Code). place (length (code_of t)) c L) d ∙ ap (λ (n : ℕ). place_by n (turn j L) (j ∷ drop (suc i) (code_of t))) (code_length t)
           ∙ ap (λ (c : Code). place_by (records t) (turn j L) c) (sym d) in
           subst Answers (sym (stands_here (sizes t) (entry_at (code_of t)) M q) ∙ x ∙ e)
-          (rw (lt-ltb i (records t) o.on_tape, y, z, sym k) (ap (λ (n : ℕ). record { answer = Stopped w.steps n; memory = w.bytes }) (sym there)))
+          (rw (lt-ltb i (records t) o.on_tape, y, z, sym k) (ap (λ (n : ℕ). record { answer = Ok (Stopped w.steps n); memory = w.bytes }) (sym there)))

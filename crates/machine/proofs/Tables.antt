@@ -17,8 +17,7 @@ use Rattle.word.specs.Bytes.{base, total}
 use Rattle.tape.specs.Instruction.{Instruction, Code, cfunc, read, code_of}
 use Rattle.tape.specs.Entries.{Declares, length_of, params_of, nothing, declares, entries_of}
 use Rattle.tape.specs.Check.{check}
-use Rattle.tape.specs.declared.Checked.{Checked}
-use Rattle.tape.specs.declared.Checked.TheVariants.{Accepted, Refused}
+use Rattle.tape.specs.Check.{Checked}
 use Rattle.tape.proofs.Places.{Passed, passed}
 use Rattle.tape.proofs.Cases.{by_kind, read_cfunc}
 use Rattle.tape.proofs.Reading.{code_from, code_length}
@@ -27,6 +26,8 @@ use Rattle.tape.proofs.Entered.{StandsAt}
 use Rattle.tape.proofs.Positions.{code_there, before}
 use Rattle.tape.proofs.Declared.{exposed_there, array_at, array_small, arrays_all, arrays_few}
 use Rattle.machine.specs.Flat.{sizes, with_place, places_of, is_accepted, Stored}
+use Rattle.std.specs.Prelude.{Ok, Err}
+use Rattle.word.specs.Refusals.{refuse}
 
 -- ---- functions
 place_by_lem : (d : Declares) (at : ℕ) (places : List ℕ) (k : ℕ) → get_or (with_place d at places) (one_function d k) 0 ≡ get_or places k 0
@@ -94,10 +95,10 @@ total_is [] = refl
 total_is (n ∷ lengths) = ap (λ (k : ℕ). n + k) (total_is lengths)
 
 -- ---- a tape that was checked
-pub accepted_by : (c : Checked) → is_accepted c ≡ true → (m : ℕ) × (c ≡ Accepted m)
+pub accepted_by : (c : Checked) → is_accepted c ≡ true → (m : ℕ) × (c ≡ Ok m)
 unfolding is_accepted
-accepted_by (Accepted m) h = (m, refl)
-accepted_by (Refused number place) h = absurd (false≢true h)
+accepted_by (Ok m) h = (m, refl)
+accepted_by (Err r) h = absurd (false≢true h)
 
 pub checked : (t : List ℕ) → is_accepted (check t) ≡ true → (m : ℕ) × Passed t m
 checked t h = let p = accepted_by (check t) h in (p.0, passed t p.0 p.1)

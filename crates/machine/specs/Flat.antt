@@ -8,12 +8,13 @@ use Rattle.word.specs.Bytes.{base as start_of, total, fetch, store}
 use Rattle.tape.specs.Instruction.{Instruction, Code, program, array, cfunc, lit, var, get, not, bin, call, def, set, put, for, end, ret, other, read, code_of}
 use Rattle.tape.specs.Entries.{Declares, length_of, params_of, nothing, declares, lengths_of, entries_of, exposed}
 use Rattle.tape.specs.Check.{check}
-use Rattle.tape.specs.declared.Checked.{Checked}
-use Rattle.tape.specs.declared.Checked.TheVariants.{Accepted, Refused}
+use Rattle.tape.specs.Check.{Checked}
 use Rattle.tape.specs.Rules.{past}
 use Rattle.machine.specs.declared.registers.Registers.{Registers}
 use Rattle.machine.specs.declared.Ran.{Ran}
 use Rattle.machine.specs.declared.Ran.TheVariants.{Done, Stopped}
+use Rattle.std.specs.Prelude.{Ok, Err}
+use Rattle.word.specs.Refusals.{OrRefused}
 
 -- `fors` and `passes` hold, for each open loop, the record of its FOR and its present number; `backs` and `bases`, for each open call, the record
 -- to go back to and where the caller's slots begin
@@ -201,8 +202,8 @@ places_of at (x ∷ c) = with_place (declares x) at (places_of (suc at) c)
 
 -- the tape was checked
 unfoldable pub is_accepted : Checked → Bool
-is_accepted (Accepted steps) = true
-is_accepted (Refused number place) = false
+is_accepted (Ok steps) = true
+is_accepted (Err r) = false
 
 -- ---- whether the record at hand counts nothing
 unfoldable pub free_by : Instruction → List ℕ → List ℕ → List ℕ → ℕ → Bool
@@ -228,10 +229,10 @@ unfoldable pub goes_on : List ℕ → List ℕ → List ℕ → Registers → �
 goes_on t fors passes g most =
     pick (ltb g.at (records t)) (pick (ltb g.steps most) true (free_by (read (record_at t g.at)) t fors passes g.loops)) false
 
-unfoldable pub answer_at : List ℕ → List ℕ → List ℕ → Registers → Ran
+unfoldable pub answer_at : List ℕ → List ℕ → List ℕ → Registers → OrRefused Ran
 answer_at t fors operands g =
-    pick (ltb g.at (records t)) (Stopped g.steps (pick (eqb (record_at t g.at).kind 20) (get_or fors (g.loops - 1) 0) g.at))
-    (Done (get_or operands (g.operands - 1) 0) g.steps)
+    pick (ltb g.at (records t)) (Ok (Stopped g.steps (pick (eqb (record_at t g.at).kind 20) (get_or fors (g.loops - 1) 0) g.at)))
+    (Ok (Done (get_or operands (g.operands - 1) 0) g.steps))
 
 -- what `answer` requires, and what `execute` does: the tape was checked, its tables are `starts` and `funcs`, and `first` is where the exposed function
 -- begins; so many arguments and bytes are given as it takes

@@ -5,12 +5,13 @@ use Rattle.word.specs.Slots.{fresh}
 use Rattle.word.specs.Bytes.{total}
 use Rattle.tape.specs.Instruction.{Code, code_of}
 use Rattle.tape.specs.Check.{check}
-use Rattle.tape.specs.declared.Checked.{Checked}
-use Rattle.tape.specs.declared.Checked.TheVariants.{Accepted, Refused as Faulty}
+use Rattle.tape.specs.Check.{Checked}
 use Rattle.tape.specs.Entries.{lengths_of, entry_at, exposed}
 use Rattle.tape.specs.Rules.{Machine, at, halted, stuck, stands, place}
 use Rattle.machine.specs.declared.Ran.{Ran}
-use Rattle.machine.specs.declared.Ran.TheVariants.{Done, Stopped, Refused}
+use Rattle.machine.specs.declared.Ran.TheVariants.{Done, Stopped}
+use Rattle.std.specs.Prelude.{Ok, Err}
+use Rattle.word.specs.Refusals.{OrRefused, refuse}
 
 -- "The run begins inside the exposed function; entering it isn't counted."
 unfoldable pub begin : Code → List ℕ → List ℕ → Machine
@@ -22,17 +23,17 @@ after c arguments memory n = stands (lengths_of c) (entry_at c) n (begin c argum
 
 -- the answer, and the memory at exit
 pub record Result : Type 0 where
-  pub answer : Ran
+  pub answer : OrRefused Ran
   pub memory : List ℕ
 
 -- "Stopped: the steps done and the record of the next counted step. Done: value and steps" (no accepted tape is stuck)
 unfoldable pub result_of : Code → Machine → Result
-result_of c (at d s τ L F w) = record { answer = Stopped w.steps (place (length c) d L); memory = w.bytes }
-result_of c (halted v w) = record { answer = Done v w.steps; memory = w.bytes }
-result_of c stuck = record { answer = Stopped 0 0; memory = [] }
+result_of c (at d s τ L F w) = record { answer = Ok (Stopped w.steps (place (length c) d L)); memory = w.bytes }
+result_of c (halted v w) = record { answer = Ok (Done v w.steps); memory = w.bytes }
+result_of c stuck = record { answer = Ok (Stopped 0 0); memory = [] }
 
 abbrev pub refused : ℕ → ℕ → List ℕ → Result
-refused number place memory = record { answer = Refused number place; memory = memory }
+refused number place memory = record { answer = refuse number place; memory = memory }
 
 unfoldable pub unless : Bool → Result → Result → Result
 unless true r rest = rest
@@ -47,8 +48,8 @@ admitted c arguments memory limit =
     (result_of c (after c arguments memory limit)))
 
 unfoldable pub run_by : Checked → Code → List ℕ → List ℕ → ℕ → Result
-run_by (Faulty number place) c arguments memory limit = refused number place memory
-run_by (Accepted steps) c arguments memory limit = admitted c arguments memory limit
+run_by (Err r) c arguments memory limit = refused r.number r.place memory
+run_by (Ok steps) c arguments memory limit = admitted c arguments memory limit
 
 unfoldable pub run : List ℕ → List ℕ → List ℕ → ℕ → Result
 run t arguments memory limit = run_by (check t) (code_of t) arguments memory limit
@@ -58,12 +59,12 @@ pub data Case : Type 0 where
   done stopped : Case
   refusal : ℕ → Case
 
-unfoldable pub case_of : Ran → Case
-case_of (Done value steps) = done
-case_of (Stopped steps record') = stopped
-case_of (Refused number place) = refusal number
+unfoldable pub case_of : OrRefused Ran → Case
+case_of (Ok (Done value steps)) = done
+case_of (Ok (Stopped steps record')) = stopped
+case_of (Err r) = refusal r.number
 
-unfoldable pub values_of : Ran → List ℕ
-values_of (Done value steps) = value ∷ steps ∷ []
-values_of (Stopped steps record') = steps ∷ record' ∷ []
-values_of (Refused number place) = place ∷ []
+unfoldable pub values_of : OrRefused Ran → List ℕ
+values_of (Ok (Done value steps)) = value ∷ steps ∷ []
+values_of (Ok (Stopped steps record')) = steps ∷ record' ∷ []
+values_of (Err r) = r.place ∷ []

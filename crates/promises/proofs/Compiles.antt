@@ -17,8 +17,7 @@ use Rattle.script.specs.Tree.{Func, Program}
 use Rattle.script.specs.Parse.{Parsed, parsed, refused, read_table}
 use Rattle.script.specs.Plain.{plain}
 use Rattle.script.specs.Written.{Within}
-use Rattle.script.specs.declared.First.{First}
-use Rattle.script.specs.declared.First.TheVariants.{Clean, Fault}
+use Rattle.script.specs.Stage.{First}
 use Rattle.script.proofs.Exactly.{written_read}
 use Rattle.tape.specs.Tape.{instructions, tape}
 use Rattle.tape.specs.Instruction.{Code, write, words, code_of}
@@ -27,13 +26,11 @@ use Rattle.tape.specs.Check.{check}
 use Rattle.tape.specs.Entries.{Entry, lengths_of, exposed}
 use Rattle.tape.proofs.Running.{opening, standing}
 use Rattle.tape.proofs.Counted.{stands_done, total_steps}
-use Rattle.tape.specs.declared.Checked.TheVariants.{Accepted}
 use Rattle.tape.proofs.Written.{code_words}
 use Rattle.tape.proofs.Entering.{entry_of, last_of, tape_lengths, tape_exposed}
 use Rattle.translation.specs.Translate.{translate, FDEFT}
 use Rattle.translation.specs.Compile.{stages, first_of, written, unless_fault, compile_by, compile}
-use Rattle.translation.specs.declared.Compiled.{Compiled}
-use Rattle.translation.specs.declared.Compiled.TheVariants.{Tape, Refused}
+use Rattle.translation.specs.Compile.{Compiled}
 use Rattle.translation.proofs.Accepted.{accepted_correct, accepted_translated}
 use Rattle.translation.proofs.Limits.{tape_accepted as accepted_tape}
 use Rattle.machine.specs.Run.{begin, after, result_of, run}
@@ -41,8 +38,11 @@ use Rattle.machine.specs.declared.Ran.TheVariants.{Done}
 use Rattle.promises.specs.Compiles.{tape_left, TapeOf, takes}
 use Rattle.promises.specs.Runs.{Runs}
 use Rattle.promises.proofs.Runs.{stands, Counted, counted}
+use Rattle.std.specs.Prelude.{Ok, Err}
+use Rattle.word.specs.Refusals.{refuse}
+use Rattle.translation.specs.Compile.{announced}
 
-clash : {A : Type 0} {number place n steps : ℕ} → ◌≡◌ {A = Compiled} (Refused number place) (Tape n steps) → A
+clash : {A : Type 0} {number place n steps : ℕ} → ◌≡◌ {A = Compiled} (refuse number place) (Ok (announced n steps)) → A
 clash e = let z : ◌≡◌ {A = ℕ} 0 1 = cc in absurd (omega arith)
 
 -- what an accepted answer comes from
@@ -50,20 +50,20 @@ pub record Comes (table out : List ℕ) (n steps : ℕ) : Type 0 where
   pub script : Program
   pub ends : ℕ
   pub reads : read_table table ≡ parsed script ends
-  pub stages_pass : first_of stages script ≡ Clean
+  pub stages_pass : first_of stages script ≡ Ok tt
   pub room : length (tape (translate script)) ≤ length out
   pub records_are : n ≡ records (tape (translate script))
   pub steps_are : steps ≡ steps_exposed (translate script)
   pub out_is : (compile table out).out ≡ sets out 0 (tape (translate script))
 
-module _ (table out : List ℕ) (n steps : ℕ) (h : (compile table out).answer ≡ Tape n steps) where
+module _ (table out : List ℕ) (n steps : ℕ) (h : (compile table out).answer ≡ Ok (announced n steps)) where
   comes : Comes table out n steps
   unfolding compile compile_by unless_fault written
   comes = reading (read_table table) refl
     where
-      roomy : (p : Program) (i : ℕ) (b : Bool) → leb (length (tape (translate p))) (length out) ≡ b → read_table table ≡ parsed p i → first_of stages p ≡ Clean → Comes table out n steps
+      roomy : (p : Program) (i : ℕ) (b : Bool) → leb (length (tape (translate p))) (length out) ≡ b → read_table table ≡ parsed p i → first_of stages p ≡ Ok tt → Comes table out n steps
       roomy p i true q e f =
-          let a : ◌≡◌ {A = Compiled} (Tape (records (tape (translate p))) (steps_exposed (translate p))) (Tape n steps) = rw (e, f, q) at h in
+          let a : ◌≡◌ {A = Compiled} (Ok (announced (records (tape (translate p))) (steps_exposed (translate p)))) (Ok (announced n steps)) = rw (e, f, q) at h in
           record {
             script = p;
             ends = i;
@@ -77,8 +77,8 @@ module _ (table out : List ℕ) (n steps : ℕ) (h : (compile table out).answer 
       roomy p i false q e f = clash (rw (e, f, q) at h)
 
       staging : (p : Program) (i : ℕ) (c : First) → first_of stages p ≡ c → read_table table ≡ parsed p i → Comes table out n steps
-      staging p i Clean f e = roomy p i (leb (length (tape (translate p))) (length out)) refl e f
-      staging p i (Fault number place) f e = clash (rw (e, f) at h)
+      staging p i (Ok u) f e = roomy p i (leb (length (tape (translate p))) (length out)) refl e f
+      staging p i (Err r) f e = clash (rw (e, f) at h)
 
       reading : (r : Parsed Program) → read_table table ≡ r → Comes table out n steps
       reading (parsed p i) e = staging p i (first_of stages p) refl e
@@ -89,7 +89,7 @@ four_words : (c : Code) → length (words c) ≡ records (words c) * 4
 unfolding words
 four_words c = let n = words_length (map write c) in omega arith
 
-module _ (table out : List ℕ) (n steps : ℕ) (given : Words table) (h : (compile table out).answer ≡ Tape n steps) where
+module _ (table out : List ℕ) (n steps : ℕ) (given : Words table) (h : (compile table out).answer ≡ Ok (announced n steps)) where
   -- ---- TAPE OF RULES: the accepted output is the tape of the translated script, and nothing else of the output changes
   pub tape_of_rules : TapeOf table out n steps
   unfolding tape
@@ -113,11 +113,11 @@ module _ (table out : List ℕ) (n steps : ℕ) (given : Words table) (h : (comp
       }
 
   -- ---- TAPE ACCEPTED: the machine's check accepts the tape, with exactly the steps announced
-  pub tape_accepted : check (tape_left table out n) ≡ Accepted steps
+  pub tape_accepted : check (tape_left table out n) ≡ Ok steps
   tape_accepted =
       let r = tape_of_rules in
       ap check r.is_tape ∙ accepted_tape r.script (written_read table r.script (records table) given r.reads).1 r.passes
-      ∙ ap (λ (k : ℕ). Accepted k) (sym r.steps_are)
+      ∙ ap (λ (k : ℕ). Ok k) (sym r.steps_are)
 
 -- ---- the last function, in the script and on the tape
 last_takes : (f : Func) (fs : List Func) → (last_of (FDEFT f) (map FDEFT fs)).params ≡ takes (f ∷ fs)
@@ -134,7 +134,7 @@ exposed_takes p h = by p.funcs refl h
     by (f ∷ fs) e l = ap (λ (x : Entry). x.params) (tape_exposed (translate p) (FDEFT f) (map FDEFT fs) (ap (map FDEFT) e)) ∙ last_takes f fs
 
 -- ---- MEANS: the tape of an accepted table, run with a limit of at least its steps, is done with the plain value, the plain bytes and exactly the steps announced
-module _ (table out arguments memory : List ℕ) (n steps : ℕ) (p : Program) (given : Words table) (h : (compile table out).answer ≡ Tape n steps)
+module _ (table out arguments memory : List ℕ) (n steps : ℕ) (p : Program) (given : Words table) (h : (compile table out).answer ≡ Ok (announced n steps))
     (reads : read_table table ≡ parsed p (records table)) (arguments_fit : length arguments ≡ takes p.funcs) (memory_fits : length memory ≡ total p.arrays) where
   same_script : (tape_of_rules table out n steps given h).script ≡ p
   same_script = let e = sym (tape_of_rules table out n steps given h).reads ∙ reads in cc
@@ -162,11 +162,11 @@ module _ (table out arguments memory : List ℕ) (n steps : ℕ) (p : Program) (
   pub compiled_counted : Counted (tape_left table out n) arguments memory steps
   compiled_counted = counted (tape_left table out n) arguments memory steps compiled_runs
 
-  stages_pass : first_of stages p ≡ Clean
+  stages_pass : first_of stages p ≡ Ok tt
   stages_pass = ap (first_of stages) (sym same_script) ∙ (tape_of_rules table out n steps given h).passes
 
   pub means : (limit : ℕ) → steps ≤ limit → Words arguments → Bytes memory
-      → run (tape_left table out n) arguments memory limit ≡ record { answer = Done (plain p arguments memory).0 steps; memory = (plain p arguments memory).1 }
+      → run (tape_left table out n) arguments memory limit ≡ record { answer = Ok (Done (plain p arguments memory).0 steps); memory = (plain p arguments memory).1 }
   unfolding after begin result_of
   means limit l words bytes =
       let t = tape_left table out n in

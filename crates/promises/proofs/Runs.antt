@@ -14,8 +14,7 @@ use Rattle.word.specs.Bytes.{total}
 use Rattle.tape.specs.Entries.{lengths_of, entry_at, exposed}
 use Rattle.tape.specs.Check.{check}
 use Rattle.tape.specs.Rules.{Machine, at, halted, stuck, place}
-use Rattle.tape.specs.declared.Checked.{Checked}
-use Rattle.tape.specs.declared.Checked.TheVariants.{Accepted, Refused as Faulty}
+use Rattle.tape.specs.Check.{Checked}
 use Rattle.tape.proofs.Accepted.{accepted_is_program}
 use Rattle.tape.proofs.Meaning.{cprogram}
 use Rattle.tape.proofs.Running.{Underway, underway, opening, standing}
@@ -23,31 +22,33 @@ use Rattle.tape.proofs.Counted.{stands_done, stands_underway, total_steps}
 use Rattle.tape.proofs.Alike.{Alike, both_at, both_halted, both_stuck, left_alike, step_alike, starts_alike, lockstep as stand_alike}
 use Rattle.machine.specs.Run.{Result, begin, after, result_of, unless, admitted, run_by, run}
 use Rattle.machine.specs.declared.Ran.{Ran}
-use Rattle.machine.specs.declared.Ran.TheVariants.{Done, Stopped, Refused}
+use Rattle.machine.specs.declared.Ran.TheVariants.{Done, Stopped}
 use Rattle.promises.specs.Runs.{Runs, Turned, by_check, by_arguments, by_memory, goes_through, records_of, end_of}
+use Rattle.std.specs.Prelude.{Ok, Err}
+use Rattle.word.specs.Refusals.{refuse}
 
 -- ---- REFUSES EXACTLY: a run is refused under the listed conditions and no others, the first of them first, and then no byte changes
-never_refused : (c : Code) (k : Machine) (number place : ℕ) → (result_of c k).answer ≡ Refused number place → ⊥
+never_refused : (c : Code) (k : Machine) (number place : ℕ) → (result_of c k).answer ≡ refuse number place → ⊥
 unfolding result_of
 never_refused c (at d s τ L F w) number place e = let z : ◌≡◌ {A = ℕ} 0 1 = cc in omega arith
 never_refused c (halted v w) number place e = let z : ◌≡◌ {A = ℕ} 0 1 = cc in omega arith
 never_refused c stuck number place e = let z : ◌≡◌ {A = ℕ} 0 1 = cc in omega arith
 
 number_of : Ran → ℕ
-number_of (Done value steps) = 0
-number_of (Stopped steps record') = 0
-number_of (Refused number place) = number
+number_of (Ok (Done value steps)) = 0
+number_of (Ok (Stopped steps record')) = 0
+number_of (Err r) = r.number
 
 place_of : Ran → ℕ
-place_of (Done value steps) = 0
-place_of (Stopped steps record') = 0
-place_of (Refused number place) = place
+place_of (Ok (Done value steps)) = 0
+place_of (Ok (Stopped steps record')) = 0
+place_of (Err r) = r.place
 
 module _ (t arguments memory : List ℕ) (limit : ℕ) where
   abbrev pub Answers : ℕ → ℕ → Type 0
-  Answers number place = (run t arguments memory limit).answer ≡ Refused number place
+  Answers number place = (run t arguments memory limit).answer ≡ refuse number place
 
-  why : (number place number₁ place₁ : ℕ) → Answers number place → (run t arguments memory limit).answer ≡ Refused number₁ place₁ → Turned t arguments memory number₁ place₁
+  why : (number place number₁ place₁ : ℕ) → Answers number place → (run t arguments memory limit).answer ≡ refuse number₁ place₁ → Turned t arguments memory number₁ place₁
       → Turned t arguments memory number place
   unfolding number_of place_of
   why number place number₁ place₁ h e w =
@@ -59,20 +60,20 @@ module _ (t arguments memory : List ℕ) (limit : ℕ) where
   unfolding run run_by admitted unless
   refused_why number place h = checked (check t) refl
     where
-      sized : {steps : ℕ} (b : Bool) → eqb (length memory) (total (lengths_of (code_of t))) ≡ b → check t ≡ Accepted steps
+      sized : {steps : ℕ} (b : Bool) → eqb (length memory) (total (lengths_of (code_of t))) ≡ b → check t ≡ Ok steps
           → length arguments ≡ (exposed (code_of t)).params → Turned t arguments memory number place
       sized true q e a = absurd (never_refused (code_of t) _ number place (rw (e, eq-eqb _ _ a, q) at h))
       sized false q e a = why number place 32 0 h (rw (e, eq-eqb _ _ a, q) refl) (by_memory e a (eqb-false _ _ q))
 
-      given : {steps : ℕ} (b : Bool) → eqb (length arguments) (exposed (code_of t)).params ≡ b → check t ≡ Accepted steps → Turned t arguments memory number place
+      given : {steps : ℕ} (b : Bool) → eqb (length arguments) (exposed (code_of t)).params ≡ b → check t ≡ Ok steps → Turned t arguments memory number place
       given true q e = sized (eqb (length memory) (total (lengths_of (code_of t)))) refl e (eqb-true _ _ q)
       given false q e = why number place 31 0 h (rw (e, q) refl) (by_arguments e (eqb-false _ _ q))
 
       checked : (c : Checked) → check t ≡ c → Turned t arguments memory number place
-      checked (Accepted steps) e = given (eqb (length arguments) (exposed (code_of t)).params) refl e
-      checked (Faulty n p) e = why number place n p h (rw e refl) (by_check e)
+      checked (Ok steps) e = given (eqb (length arguments) (exposed (code_of t)).params) refl e
+      checked (Err r) e = why number place r.number r.place h (rw e refl) (by_check e)
 
-  pub refused_then : (number place : ℕ) → Turned t arguments memory number place → run t arguments memory limit ≡ record { answer = Refused number place; memory = memory }
+  pub refused_then : (number place : ℕ) → Turned t arguments memory number place → run t arguments memory limit ≡ record { answer = refuse number place; memory = memory }
   unfolding run run_by admitted unless
   refused_then number place (by_check e) = rw e refl
   refused_then number place (by_arguments e a) = rw (e, ne_eqb _ _ a) refl
@@ -88,12 +89,12 @@ stands t arguments memory m r n = rw (r.accepted, eq-eqb _ _ r.arguments_fit, eq
 pub record Counted (t arguments memory : List ℕ) (m : ℕ) : Type 0 where
   pub value : ℕ
   pub bytes : List ℕ
-  pub at_end : (n : ℕ) → m ≤ n → run t arguments memory n ≡ record { answer = Done value m; memory = bytes }
-  pub before : (n : ℕ) → n < m → (r : ℕ) × ((run t arguments memory n).answer ≡ Stopped n r)
+  pub at_end : (n : ℕ) → m ≤ n → run t arguments memory n ≡ record { answer = Ok (Done value m); memory = bytes }
+  pub before : (n : ℕ) → n < m → (r : ℕ) × ((run t arguments memory n).answer ≡ Ok (Stopped n r))
 
-stopped_at : (c : Code) (n : ℕ) {k : Machine} → Underway n k → (r : ℕ) × ((result_of c k).answer ≡ Stopped n r)
+stopped_at : (c : Code) (n : ℕ) {k : Machine} → Underway n k → (r : ℕ) × ((result_of c k).answer ≡ Ok (Stopped n r))
 unfolding result_of
-stopped_at c n (underway {i} {c = d} {L} q e) = (place (length c) (i ∷ d) L, ap (λ (k : ℕ). Stopped k (place (length c) (i ∷ d) L)) e)
+stopped_at c n (underway {i} {c = d} {L} q e) = (place (length c) (i ∷ d) L, ap (λ (k : ℕ). Ok (Stopped k (place (length c) (i ∷ d) L))) e)
 
 pub counted : (t arguments memory : List ℕ) (m : ℕ) → Runs t arguments memory m → Counted t arguments memory m
 unfolding after begin result_of
@@ -109,7 +110,7 @@ counted t arguments memory m r =
       bytes = w.1.bytes;
       at_end = λ n l.
           stands t arguments memory m r n ∙ ap (result_of (code_of t)) (there n ∙ stands_done p q.sound arguments memory n (omega arith))
-          ∙ ap (λ (k : ℕ). record { answer = Done w.0 k; memory = w.1.bytes }) (total_steps p arguments memory ∙ sym e);
+          ∙ ap (λ (k : ℕ). record { answer = Ok (Done w.0 k); memory = w.1.bytes }) (total_steps p arguments memory ∙ sym e);
       before = λ n l.
           let x = stopped_at (code_of t) n (stands_underway p q.sound arguments memory n (omega arith)) in
           (x.0, ap (λ (y : Result). y.answer) (stands t arguments memory m r n ∙ ap (result_of (code_of t)) (there n)) ∙ x.1);

@@ -3,11 +3,12 @@ use Rattle.std.specs.Prelude.{ℕ, ◌*◌, ◌<◌, ◌≡◌, List, [], ◌∷
 use Rattle.word.specs.Records.{records}
 use Rattle.script.specs.Tree.{Func, Program}
 use Rattle.script.specs.Parse.{parsed, refused, read_table}
-use Rattle.script.specs.declared.First.TheVariants.{Clean, Fault}
 use Rattle.tape.specs.Tape.{tape}
 use Rattle.tape.specs.Steps.{steps_exposed}
 use Rattle.translation.specs.Translate.{translate}
 use Rattle.translation.specs.Compile.{stages, first_of, compile}
+use Rattle.std.specs.Prelude.{Ok, Err}
+use Rattle.word.specs.Refusals.{refuse}
 
 -- the words of the records written
 abbrev pub tape_left : List ℕ → List ℕ → ℕ → List ℕ
@@ -17,7 +18,7 @@ tape_left table out n = take (n * 4) (compile table out).out
 pub record TapeOf (table out : List ℕ) (n steps : ℕ) : Type 0 where
   pub script : Program
   pub reads : read_table table ≡ parsed script (records table)
-  pub passes : first_of stages script ≡ Clean
+  pub passes : first_of stages script ≡ Ok tt
   pub is_tape : tape_left table out n ≡ tape (translate script)
   pub unchanged : drop (n * 4) (compile table out).out ≡ drop (n * 4) out
   pub as_long : length (compile table out).out ≡ length out
@@ -33,6 +34,6 @@ takes (f ∷ g ∷ fs) = takes (g ∷ fs)
 -- why a table is refused: 1 to 7 in reading it, 8 to 12 in the first stage that finds a fault, 13 for want of room
 pub data Faulty (table out : List ℕ) : ℕ → ℕ → Type 0 where
   by_reading : {number place : ℕ} → read_table table ≡ refused number place → Faulty table out number place
-  by_stage : {p : Program} {i number place : ℕ} → read_table table ≡ parsed p i → first_of stages p ≡ Fault number place → Faulty table out number place
-  by_room : {p : Program} {i : ℕ} → read_table table ≡ parsed p i → first_of stages p ≡ Clean → length out < length (tape (translate p))
+  by_stage : {p : Program} {i number place : ℕ} → read_table table ≡ parsed p i → first_of stages p ≡ refuse number place → Faulty table out number place
+  by_room : {p : Program} {i : ℕ} → read_table table ≡ parsed p i → first_of stages p ≡ Ok tt → length out < length (tape (translate p))
       → Faulty table out 13 (records (tape (translate p)))

@@ -7,7 +7,7 @@ use Rattle.script.specs.Table.{HeadE, NUM, TRUE, FALSE, VAR, GET, LNOT, BNOT, BI
 use Rattle.script.specs.Parse.{Parsed, parsed, refused, Nest, read_table}
 use Rattle.script.specs.Stage.{clean, fault}
 use Rattle.script.specs.declared.Env.{Env}
-use Rattle.script.specs.declared.First.{First}
+use Rattle.script.specs.Stage.{First}
 use Rattle.reading.specs.declared.leads.Room.{Room}
 use Rattle.reading.specs.declared.descent.Nesting.{Nesting}
 use Rattle.reading.specs.declared.descent.Walk.{Walk}

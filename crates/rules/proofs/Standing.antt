@@ -14,7 +14,6 @@ use Rattle.tape.specs.Tape.{instructions}
 use Rattle.tape.specs.Steps.{steps_exposed}
 use Rattle.tape.specs.Entries.{Entry, entries_of, entry_at, exposed}
 use Rattle.tape.specs.Check.{check}
-use Rattle.tape.specs.declared.Checked.TheVariants.{Accepted}
 use Rattle.tape.specs.Rules.{World, Machine, at as machine, halted, tick, stored, back, stands}
 use Rattle.tape.proofs.Meaning.{CFun, cmeaning, cexposed, cnothing, cprogram}
 use Rattle.tape.proofs.Sound.{SoundFrom, the_last, one_more, params_at, Sound}
@@ -29,6 +28,7 @@ use Rattle.rules.specs.Reduction.{Label, quiet, counts, Reduces, EXR-VAR, EXR-AR
 use Rattle.rules.specs.Correspondence.{Reaches, here, quietly, counting, Corresponds, done, due, counter_of, StandsAt, FollowsRules}
 use Rattle.rules.proofs.Around.{nothing}
 use Rattle.rules.proofs.Locked.{Lock, rest, rule, record_of, both, Serves, body_lock, serves_next, same_next}
+use Rattle.std.specs.Prelude.{Ok, Err}
 
 -- ---- κ goes up by one at a counted rule, and stays at a quiet one
 unfoldable size : Label → ℕ
@@ -182,7 +182,7 @@ exposed_arity p h = by p.funcs refl (sound_some h)
     by [] e l = absurd (omega arith)
     by (f ∷ fs) e l = ap (λ (x : Entry). x.params) (tape_exposed p f fs e) ∙ sym (arity_last f fs)
 
-pub accepted_stands : (t : List ℕ) (m : ℕ) → check t ≡ Accepted m → (values memory : List ℕ) → length values ≡ (exposed (code_of t)).params → (n : ℕ) → n ≤ m
+pub accepted_stands : (t : List ℕ) (m : ℕ) → check t ≡ Ok m → (values memory : List ℕ) → length values ≡ (exposed (code_of t)).params → (n : ℕ) → n ≤ m
     → FollowsRules t values memory n (standing (code_of t) values memory n)
 accepted_stands t m e values memory fit n l =
     let q = accepted_is_program t m e in

@@ -8,7 +8,7 @@ use Rattle.word.specs.declared.reader.Reader.{Reader}
 use Rattle.script.specs.Stage.{fault, Walked, goes, stops, onward}
 use Rattle.scoping.specs.Passes.{At, come, walk, then_first}
 use Rattle.scoping.specs.Scoped.{scoping, parameters_of, scoped_func, seek_of, walk_of, walked_of}
-use Rattle.script.specs.declared.First.{First}
+use Rattle.script.specs.Stage.{First}
 use Rattle.scoping.specs.declared.scope.Slots.{Slots}
 use Rattle.scoping.specs.declared.scope.Seek.TheVariants as sought
 use Rattle.scoping.specs.declared.scope.Walk.{Walk}

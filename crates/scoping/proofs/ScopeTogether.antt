@@ -21,7 +21,7 @@ use Rattle.script.specs.Scope.{Names, settable, scope_e, declare, close, scope_s
 use Rattle.scoping.specs.Passes.{At, come, statements_of, nested, walk, then_first}
 use Rattle.scoping.specs.Scoped.{seen_of, names_of, declarable, own, declares, shown, closed_by, leaves, entering, scoping, parameters_of, scoped_func, scoped}
 use Rattle.script.specs.declared.Env.{Env}
-use Rattle.script.specs.declared.First.{First}
+use Rattle.script.specs.Stage.{First}
 use Rattle.scoping.specs.declared.scope.Slots.{Slots}
 use Rattle.script.proofs.Leading.{from}
 use Rattle.scoping.proofs.Past.{past_e, past_s}

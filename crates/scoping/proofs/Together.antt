@@ -13,11 +13,12 @@ use Rattle.script.specs.Written.{list_s, list_funcs, head_of, InFunc, InFuncs, n
 use Rattle.script.specs.Stage.{or_else, Walked, goes, stops, after, onward, ended, each_func, first_func, over_program}
 use Rattle.scoping.specs.Passes.{At, come, statements_of, Turn, nested, walk, Over, then_first, func_at, funcs_from, staged}
 use Rattle.script.specs.declared.Env.{Env}
-use Rattle.script.specs.declared.First.{First}
-use Rattle.script.specs.declared.First.TheVariants.{Clean, Fault}
+use Rattle.script.specs.Stage.{First}
 use Rattle.script.proofs.Leading.{from}
 use Rattle.scoping.proofs.Found.{finds, lists, begins}
 use Rattle.scoping.proofs.Walking.{walk_found}
+use Rattle.std.specs.Prelude.{Ok, Err}
+use Rattle.word.specs.Refusals.{refuse}
 
 pub data Together {A B : Type 0} (mean : A → B) (end : ℕ) : Walked (At A) → Walked B → Type 0 where
   both_go : {a : A} {b : B} → mean a ≡ b → Together mean end (come end a) (goes b)
@@ -32,8 +33,8 @@ module _ {A B : Type 0} {mean : A → B} where
 
   pub go_after : {i : ℕ} {w : Walked (At A)} {r : Walked B} (f : First) → Together mean i w r → Together mean i (after f w) (after f r)
   unfolding after
-  go_after Clean h = h
-  go_after (Fault number place) h = both_stop
+  go_after (Ok u) h = h
+  go_after (Err r) h = both_stop
 
   pub go_to : {i j : ℕ} {w : Walked (At A)} {r : Walked B} → i ≡ j → Together mean i w r → Together mean j w r
   go_to {w} {r} e h = subst (λ (k : ℕ). Together mean k w r) e h
@@ -61,18 +62,18 @@ onward_assoc (stops number place) f g = refl
 
 pub onward_after : {A B : Type 0} (f : First) (w : Walked A) (g : A → Walked B) → onward (after f w) g ≡ after f (onward w g)
 unfolding onward after
-onward_after Clean w g = refl
-onward_after (Fault number place) w g = refl
+onward_after (Ok u) w g = refl
+onward_after (Err r) w g = refl
 
 pub after_after : {A : Type 0} (f g : First) (w : Walked A) → after f (after g w) ≡ after (or_else f g) w
 unfolding after or_else
-after_after Clean g w = refl
-after_after (Fault number place) g w = refl
+after_after (Ok u) g w = refl
+after_after (Err r) g w = refl
 
 pub or_assoc : (a b c : First) → or_else (or_else a b) c ≡ or_else a (or_else b c)
 unfolding or_else
-or_assoc Clean b c = refl
-or_assoc (Fault number place) b c = refl
+or_assoc (Ok u) b c = refl
+or_assoc (Err r) b c = refl
 
 -- ---- a statement's record
 module _ {A : Type 0} (T : Turn A) (t : List ℕ) (a : A) where

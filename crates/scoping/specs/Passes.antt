@@ -7,7 +7,7 @@ use Rattle.word.specs.declared.Record.{Record}
 use Rattle.word.specs.declared.reader.Read.{Read}
 use Rattle.word.specs.declared.reader.Read.TheVariants.{Found, End}
 use Rattle.script.specs.Stage.{clean, fault, Walked, goes, stops, onward}
-use Rattle.script.specs.declared.First.{First}
+use Rattle.script.specs.Stage.{First}
 use Rattle.scoping.specs.declared.passes.Heading.{Heading}
 
 -- what a stage carries, and the record that it has come to

@@ -9,7 +9,7 @@ use Rattle.word.specs.declared.Record.{Record}
 use Rattle.script.specs.Stage.{clean, fault, Walked, goes, stops, after, onward}
 use Rattle.script.specs.Scope.{Names, settable}
 use Rattle.scoping.specs.Passes.{At, come, Turn, walk, Over, staged}
-use Rattle.script.specs.declared.First.{First}
+use Rattle.script.specs.Stage.{First}
 use Rattle.scoping.specs.declared.scope.Slots.{Slots}
 use Rattle.scoping.specs.declared.scope.Seek.{Seek}
 use Rattle.scoping.specs.declared.scope.Seek.TheVariants as sought

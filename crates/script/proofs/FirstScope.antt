@@ -9,29 +9,31 @@ use Rattle.script.specs.Tree.{Expr, num, tru, fls, var, get, lnot, bnot, bin, ca
 use Rattle.script.specs.Stage.{stops, onward, each_func, first_func, over_program}
 use Rattle.script.specs.Scope.{Names, readable, settable, scope_e, scope_es, declare, close, scope_s, scope_ss, parameters, scope_f}
 use Rattle.script.specs.Written.{listing, Within}
-use Rattle.script.specs.declared.First.TheVariants.{Fault}
 use Rattle.script.proofs.Firsts.{not_clean, not_goes, or_from, after_from, onward_from, refuse_from, close_stops, ended_stops, or_like, after_like, onward_like, refuse_like, close_like, ended_like}
 use Rattle.script.proofs.Beginning.{LikeE, past_e, same_e_lem, like_get, like_lnot, like_bnot, like_bin, like_call, LikeEs, past_es, like_none, like_more, LikeS, past_s, same_s_lem, like_seq, like_def, like_set, like_put, like_for, like_if, like_return, LikeSs, past_ss, like_done, like_next}
 use Rattle.script.proofs.Agreeing.{LikeFs, past_fs, like_end, like_func, begin_alike}
+use Rattle.std.specs.Prelude.{Ok, Err}
+use Rattle.word.proofs.Refused.{refused_place}
+use Rattle.word.specs.Refusals.{refuse}
 
 module _ {number place : ℕ} where
   -- ---- a fault lies in the tree that has it
-  readable_from : (z : Seen) (at : ℕ) → readable z at ≡ Fault number place → at ≤ place
+  readable_from : (z : Seen) (at : ℕ) → readable z at ≡ refuse number place → at ≤ place
   unfolding readable
-  readable_from hidden at e = let p : at ≡ place = cc in omega arith
+  readable_from hidden at e = omega (arith, refused_place e)
   readable_from fixed at e = not_clean e
   readable_from defined at e = not_clean e
 
-  settable_from : (z : Seen) (at : ℕ) → settable z at ≡ Fault number place → at ≤ place
+  settable_from : (z : Seen) (at : ℕ) → settable z at ≡ refuse number place → at ≤ place
   unfolding settable
-  settable_from hidden at e = let p : at ≡ place = cc in omega arith
-  settable_from fixed at e = let p : at ≡ place = cc in omega arith
+  settable_from hidden at e = omega (arith, refused_place e)
+  settable_from fixed at e = omega (arith, refused_place e)
   settable_from defined at e = not_clean e
 
   mutual
     unfolding scope_e
 
-    scope_e_from : (x : Expr) (S : Scope) (at i : ℕ) → i ≤ at → scope_e S at x ≡ Fault number place → i ≤ place
+    scope_e_from : (x : Expr) (S : Scope) (at i : ℕ) → i ≤ at → scope_e S at x ≡ refuse number place → i ≤ place
     scope_e_from (num v) S at i l e = not_clean e
     scope_e_from tru S at i l e = not_clean e
     scope_e_from fls S at i l e = not_clean e
@@ -43,7 +45,7 @@ module _ {number place : ℕ} where
         or_from (scope_e S (at + 1) x) (λ f. scope_e_from x S (at + 1) i (omega arith) f) (λ f. scope_e_from y S (at + 1 + size_e x) i (omega arith) f) e
     scope_e_from (call f xs) S at i l e = scope_es_from xs S (at + 1) i (omega arith) e
 
-    scope_es_from : (xs : Exprs) (S : Scope) (at i : ℕ) → i ≤ at → scope_es S at xs ≡ Fault number place → i ≤ place
+    scope_es_from : (xs : Exprs) (S : Scope) (at i : ℕ) → i ≤ at → scope_es S at xs ≡ refuse number place → i ≤ place
     scope_es_from none S at i l e = not_clean e
     scope_es_from (more x xs) S at i l e = or_from (scope_e S at x) (λ f. scope_e_from x S at i l f) (λ f. scope_es_from xs S (at + size_e x) i (omega arith) f) e
 
@@ -81,7 +83,7 @@ module _ {number place : ℕ} where
     mutual
       unfolding scope_e
 
-      scope_e_like : {at : ℕ} {x y : Expr} → LikeE k at x y → (S : Scope) → scope_e S at x ≡ Fault number place → scope_e S at y ≡ Fault number place
+      scope_e_like : {at : ℕ} {x y : Expr} → LikeE k at x y → (S : Scope) → scope_e S at x ≡ refuse number place → scope_e S at y ≡ refuse number place
       scope_e_like (past_e {at} {x} l) S e = absurd (omega (arith, scope_e_from x S at k l e))
       scope_e_like same_e_lem S e = e
       scope_e_like (like_get h) S e = scope_e_like h S e
@@ -94,7 +96,7 @@ module _ {number place : ℕ} where
           rw (← z) (c, scope_e_like t S f)) e
       scope_e_like (like_call h) S e = scope_es_like h S e
 
-      scope_es_like : {at : ℕ} {xs ys : Exprs} → LikeEs k at xs ys → (S : Scope) → scope_es S at xs ≡ Fault number place → scope_es S at ys ≡ Fault number place
+      scope_es_like : {at : ℕ} {xs ys : Exprs} → LikeEs k at xs ys → (S : Scope) → scope_es S at xs ≡ refuse number place → scope_es S at ys ≡ refuse number place
       scope_es_like (past_es {at} {xs} l) S e = absurd (omega (arith, scope_es_from xs S at k l e))
       scope_es_like like_none S e = e
       scope_es_like (like_more {at} {x} {xs = xs} h same t) S e =
@@ -161,17 +163,17 @@ module _ {number place : ℕ} where
           rw (← z) (c, scope_ss_like t M f)) e
 
   -- ---- functions
-  func_from : (f : Func) (at i : ℕ) → i ≤ at → scope_f at f ≡ Fault number place → i ≤ place
+  func_from : (f : Func) (at i : ℕ) → i ≤ at → scope_f at f ≡ refuse number place → i ≤ place
   unfolding scope_f
   func_from f at i l e = scope_s_from f.body (parameters f.params) (at + 1) i (omega arith) (ended_stops _ e)
 
-  funcs_from : (fs : List Func) (at i : ℕ) → i ≤ at → each_func scope_f at fs ≡ Fault number place → i ≤ place
+  funcs_from : (fs : List Func) (at i : ℕ) → i ≤ at → each_func scope_f at fs ≡ refuse number place → i ≤ place
   unfolding each_func
   funcs_from [] at i l e = not_clean e
   funcs_from (f ∷ fs) at i l e = or_from (scope_f at f) (func_from f at i l) (λ o. funcs_from fs (at + size_f f) i (omega arith) o) e
 
   funcs_like : {k at : ℕ} {fs gs : List Func} → place < k → LikeFs k at fs gs
-      → each_func scope_f at fs ≡ Fault number place → each_func scope_f at gs ≡ Fault number place
+      → each_func scope_f at fs ≡ refuse number place → each_func scope_f at gs ≡ refuse number place
   unfolding each_func scope_f
   funcs_like {k} m (past_fs {at} {fs} l) e = absurd (omega (arith, funcs_from fs at k l e))
   funcs_like m like_end e = e
@@ -184,8 +186,8 @@ module _ {number place : ℕ} where
       rw (← z) (c, funcs_like m rest o)) e
 
 -- a fault of scope at a record: each program whose table has the same records up to that one has it, with the same number
-pub scope_first : (p q : Program) (number place : ℕ) → Within p → Within q → over_program scope_f p ≡ Fault number place
-    → take (suc place) (listing q) ≡ take (suc place) (listing p) → over_program scope_f q ≡ Fault number place
+pub scope_first : (p q : Program) (number place : ℕ) → Within p → Within q → over_program scope_f p ≡ refuse number place
+    → take (suc place) (listing q) ≡ take (suc place) (listing p) → over_program scope_f q ≡ refuse number place
 unfolding over_program first_func
 scope_first p q number place h g e same =
     let a = begin_alike (suc place) p q (omega arith) h g same in

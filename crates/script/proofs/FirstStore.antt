@@ -8,33 +8,35 @@ use Rattle.script.specs.Tree.{Stmt, skip, seq, def, set, put, for, if, return, S
 use Rattle.script.specs.Stage.{first_func}
 use Rattle.script.specs.Stores.{store_s, store_ss, helpers, stores}
 use Rattle.script.specs.Written.{listing, Within}
-use Rattle.script.specs.declared.First.TheVariants.{Fault}
 use Rattle.script.proofs.Firsts.{not_clean, or_from, or_like}
 use Rattle.script.proofs.Beginning.{LikeS, past_s, same_s_lem, like_seq, like_def, like_set, like_put, like_for, like_if, like_return, LikeSs, past_ss, like_done, like_next}
 use Rattle.script.proofs.Agreeing.{LikeFs, past_fs, like_end, like_func, begin_alike}
+use Rattle.std.specs.Prelude.{Ok, Err}
+use Rattle.word.proofs.Refused.{refused_place}
+use Rattle.word.specs.Refusals.{refuse}
 
 module _ {number place : ℕ} where
   -- ---- the fault lies in the tree that has it
   mutual
     unfolding store_s
 
-    store_from : (x : Stmt) (at i : ℕ) → i ≤ at → store_s at x ≡ Fault number place → i ≤ place
+    store_from : (x : Stmt) (at i : ℕ) → i ≤ at → store_s at x ≡ refuse number place → i ≤ place
     store_from skip at i l e = not_clean e
     store_from (seq xs) at i l e = stores_from xs (at + 1) i (omega arith) e
     store_from (def x y) at i l e = not_clean e
     store_from (set x y) at i l e = not_clean e
-    store_from (put a x y) at i l e = let p : at ≡ place = cc in omega arith
+    store_from (put a x y) at i l e = omega (arith, refused_place e)
     store_from (for x lo hi s) at i l e = store_from s (at + 1) i (omega arith) e
     store_from (if c s t) at i l e =
         or_from (store_s (at + 1 + size_e c) s) (λ o. store_from s (at + 1 + size_e c) i (omega arith) o)
         (λ o. store_from t (at + 1 + size_e c + size_s s) i (omega arith) o) e
     store_from (return y) at i l e = not_clean e
 
-    stores_from : (xs : Stmts) (at i : ℕ) → i ≤ at → store_ss at xs ≡ Fault number place → i ≤ place
+    stores_from : (xs : Stmts) (at i : ℕ) → i ≤ at → store_ss at xs ≡ refuse number place → i ≤ place
     stores_from done at i l e = not_clean e
     stores_from (next x xs) at i l e = or_from (store_s at x) (λ o. store_from x at i l o) (λ o. stores_from xs (at + size_s x) i (omega arith) o) e
 
-  helpers_from : (fs : List Func) (at i : ℕ) → i ≤ at → helpers at fs ≡ Fault number place → i ≤ place
+  helpers_from : (fs : List Func) (at i : ℕ) → i ≤ at → helpers at fs ≡ refuse number place → i ≤ place
   unfolding helpers
   helpers_from [] at i l e = not_clean e
   helpers_from (f ∷ []) at i l e = not_clean e
@@ -46,7 +48,7 @@ module _ {number place : ℕ} where
     mutual
       unfolding store_s
 
-      store_like : {at : ℕ} {x y : Stmt} → LikeS k at x y → store_s at x ≡ Fault number place → store_s at y ≡ Fault number place
+      store_like : {at : ℕ} {x y : Stmt} → LikeS k at x y → store_s at x ≡ refuse number place → store_s at y ≡ refuse number place
       store_like (past_s {at} {x} l) e = absurd (omega (arith, store_from x at k l e))
       store_like same_s_lem e = e
       store_like (like_seq h) e = stores_like h e
@@ -66,7 +68,7 @@ module _ {number place : ℕ} where
           rw (← y) (p, store_like h₂ o)) e)
       store_like (like_return h) e = not_clean e
 
-      stores_like : {at : ℕ} {xs ys : Stmts} → LikeSs k at xs ys → store_ss at xs ≡ Fault number place → store_ss at ys ≡ Fault number place
+      stores_like : {at : ℕ} {xs ys : Stmts} → LikeSs k at xs ys → store_ss at xs ≡ refuse number place → store_ss at ys ≡ refuse number place
       stores_like (past_ss {at} {xs} l) e = absurd (omega (arith, stores_from xs at k l e))
       stores_like like_done e = e
       stores_like (like_next {at} {x} {y} {xs} {ys} h same t) e =
@@ -78,8 +80,8 @@ module _ {number place : ℕ} where
 
     -- a function, and those after it
     helper_like : (at : ℕ) (f g : Func) (fs gs : List Func) → length fs ≡ length gs → LikeS k (at + 1) f.body g.body → (at + size_f f ≤ k → f ≡ g)
-        → (helpers (at + size_f f) fs ≡ Fault number place → helpers (at + size_f f) gs ≡ Fault number place)
-        → helpers at (f ∷ fs) ≡ Fault number place → helpers at (g ∷ gs) ≡ Fault number place
+        → (helpers (at + size_f f) fs ≡ refuse number place → helpers (at + size_f f) gs ≡ refuse number place)
+        → helpers at (f ∷ fs) ≡ refuse number place → helpers at (g ∷ gs) ≡ refuse number place
     unfolding helpers
     helper_like at f g [] [] n body same rest e = e
     helper_like at f g [] (y ∷ gs) n body same rest e = absurd (omega arith)
@@ -92,7 +94,7 @@ module _ {number place : ℕ} where
         rw (← z) (c, rest o)) e
 
     helpers_like : {at : ℕ} {fs gs : List Func} → LikeFs k at fs gs → length fs ≡ length gs
-        → helpers at fs ≡ Fault number place → helpers at gs ≡ Fault number place
+        → helpers at fs ≡ refuse number place → helpers at gs ≡ refuse number place
     helpers_like (past_fs {at} {fs} l) n e = absurd (omega (arith, helpers_from fs at k l e))
     helpers_like like_end n e = e
     helpers_like (like_func {at} {f} {g} {fs} {gs} params body same rest) n e =
@@ -100,8 +102,8 @@ module _ {number place : ℕ} where
         helper_like at f g fs gs n₁ body same (λ o. helpers_like rest n₁ o) e
 
 -- a store outside the exposed function: each program whose table has the same records up to that PUT has it
-pub stores_first : (p q : Program) (number place : ℕ) → Within p → Within q → stores p ≡ Fault number place
-    → take (suc place) (listing q) ≡ take (suc place) (listing p) → stores q ≡ Fault number place
+pub stores_first : (p q : Program) (number place : ℕ) → Within p → Within q → stores p ≡ refuse number place
+    → take (suc place) (listing q) ≡ take (suc place) (listing p) → stores q ≡ refuse number place
 unfolding stores first_func
 stores_first p q number place h g e same =
     let a = begin_alike (suc place) p q (omega arith) h g same in

@@ -19,15 +19,15 @@ use Rattle.script.specs.Stores.{store_s, store_ss, helpers, stores}
 use Rattle.script.specs.Parse.{entered}
 use Rattle.script.specs.Written.{Inside, Insides, head_of, InFunc, Within}
 use Rattle.script.specs.declared.Env.{Env}
-use Rattle.script.specs.declared.First.TheVariants.{Clean}
 use Rattle.script.proofs.Walks.{faulty, both_clean, after_goes, onward_goes, refuse_goes, ended_clean, required}
 use Rattle.script.proofs.Scoping.{closed, close_goes}
 use Rattle.script.proofs.Judged.{shows, Context, ty_in, after_s, after_ss, Fine, Sound, Sounds, NoPut, NoPuts, SoundFunc, SoundFrom, the_last, one_more, params_at, SoundProgram}
 use Rattle.script.proofs.Placing.{Places, Ordered, a_func, ordered}
 use Rattle.script.proofs.Viewing.{shown_as, view, is_number, is_boolean, are_alike, ty_view, fine}
 use Rattle.script.proofs.Declaring.{Held, Later, later_refl, later_trans, held_declare, later_declare, view_declare, closed_held, closed_later, view_later, begin_held, begin_view}
+use Rattle.std.specs.Prelude.{Ok, Err}
 
-settable_shown : (k : Seen) (at : ℕ) (t : Ty) → settable k at ≡ Clean → shown_as k t ≡ shows t
+settable_shown : (k : Seen) (at : ℕ) (t : Ty) → settable k at ≡ Ok tt → shown_as k t ≡ shows t
 unfolding settable shown_as
 settable_shown hidden at t e = absurd (faulty e)
 settable_shown fixed at t e = absurd (faulty e)
@@ -204,7 +204,7 @@ module _ (π : ℕ → ℕ) (k : ℕ) (v : Env) (𝓟 : Places π k v) where
 mutual
   unfolding store_s NoPut
 
-  no_put : (s : Stmt) (at : ℕ) → store_s at s ≡ Clean → NoPut s
+  no_put : (s : Stmt) (at : ℕ) → store_s at s ≡ Ok tt → NoPut s
   no_put skip at h = tt
   no_put (seq ss) at h = no_puts ss (at + 1) h
   no_put (def x e) at h = tt
@@ -216,7 +216,7 @@ mutual
       (no_put s (at + 1 + size_e c) b.0, no_put t (at + 1 + size_e c + size_s s) b.1)
   no_put (return e) at h = tt
 
-  no_puts : (ss : Stmts) (at : ℕ) → store_ss at ss ≡ Clean → NoPuts ss
+  no_puts : (ss : Stmts) (at : ℕ) → store_ss at ss ≡ Ok tt → NoPuts ss
   no_puts done at h = tt
   no_puts (next s ss) at h =
       let b = both_clean _ h in
@@ -224,7 +224,7 @@ mutual
 
 -- ---- functions and the program
 module _ (π : ℕ → ℕ) where
-  func_sound : (k at : ℕ) (f : Func) {v : Env} → Places π k (entered v (head_of f)) → InFunc v f → scope_f at f ≡ Clean → type_f at f ≡ Clean → SoundFunc π k f
+  func_sound : (k at : ℕ) (f : Func) {v : Env} → Places π k (entered v (head_of f)) → InFunc v f → scope_f at f ≡ Ok tt → type_f at f ≡ Ok tt → SoundFunc π k f
   unfolding scope_f type_f entered
   func_sound k at f {v} 𝓟 h s t =
       let a = ended_clean _ s in
@@ -233,7 +233,7 @@ module _ (π : ℕ → ℕ) where
       record { room = h.room; body = subst (λ (Γ : Context). Sound π k f.slots Γ f.body) (begin_view f.params) w.sound }
 
   funcs_sound : (k at : ℕ) (fs : List Func) → 1 ≤ length fs → Ordered π k fs
-      → each_func scope_f at fs ≡ Clean → each_func type_f at fs ≡ Clean → helpers at fs ≡ Clean → SoundFrom π k fs
+      → each_func scope_f at fs ≡ Ok tt → each_func type_f at fs ≡ Ok tt → helpers at fs ≡ Ok tt → SoundFrom π k fs
   unfolding each_func helpers
   funcs_sound k at [] l o s t h = absurd (not-suc-le-zero l)
   funcs_sound k at (f ∷ []) l (a_func 𝓟 i o) s t h = the_last (func_sound k at f 𝓟 i (both_clean _ s).0 (both_clean _ t).0)
@@ -245,6 +245,6 @@ module _ (π : ℕ → ℕ) where
       (funcs_sound (suc k) (at + size_f f) (g ∷ fs) (omega arith) o a.1 b.1 c.1)
 
 -- a script within its ranges in which no stage found a fault is sound
-pub accepted_sound : (p : Program) → Within p → over_program scope_f p ≡ Clean → over_program type_f p ≡ Clean → stores p ≡ Clean → SoundProgram p
+pub accepted_sound : (p : Program) → Within p → over_program scope_f p ≡ Ok tt → over_program type_f p ≡ Ok tt → stores p ≡ Ok tt → SoundProgram p
 unfolding over_program stores
 accepted_sound p w s t h = funcs_sound (params_at p.funcs) 0 (first_func p) p.funcs w.some (ordered p w) s t h

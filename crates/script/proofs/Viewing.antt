@@ -12,10 +12,10 @@ use Rattle.script.specs.Scope.{readable, scope_e, scope_es}
 use Rattle.script.specs.Types.{Types, ty, numeric, numerics, fits, type_e, type_es}
 use Rattle.script.specs.Written.{InE, InEs}
 use Rattle.script.specs.declared.Env.{Env}
-use Rattle.script.specs.declared.First.TheVariants.{Clean}
 use Rattle.script.proofs.Walks.{faulty, both_clean, required}
 use Rattle.script.proofs.Placing.{Places}
 use Rattle.script.proofs.Judged.{Shown, hides, shows, Context, shown_ty, types_of, ty_in, Fine, Fines}
+use Rattle.std.specs.Prelude.{Ok, Err}
 
 unfoldable pub shown_as : Seen → Ty → Shown
 shown_as hidden t = hides
@@ -40,7 +40,7 @@ are_alike number u h = sym (is_number u h)
 are_alike boolean u h = sym (is_boolean u h)
 
 -- ---- expressions
-readable_shown : (k : Seen) (at : ℕ) (t : Ty) → readable k at ≡ Clean → shown_as k t ≡ shows t
+readable_shown : (k : Seen) (at : ℕ) (t : Ty) → readable k at ≡ Ok tt → shown_as k t ≡ shows t
 unfolding readable shown_as
 readable_shown hidden at t e = absurd (faulty e)
 readable_shown fixed at t e = refl
@@ -48,7 +48,7 @@ readable_shown defined at t e = refl
 
 module _ (S : Scope) (Γ : Types) where
   -- a clean expression has its type
-  pub ty_view : (e : Expr) (at : ℕ) → scope_e S at e ≡ Clean → ty_in (view S Γ) e ≡ ty Γ e
+  pub ty_view : (e : Expr) (at : ℕ) → scope_e S at e ≡ Ok tt → ty_in (view S Γ) e ≡ ty Γ e
   unfolding ty scope_e types_of view shown_ty
   ty_view (num v) at h = refl
   ty_view tru at h = refl
@@ -64,7 +64,7 @@ module _ (S : Scope) (Γ : Types) where
     mutual
       unfolding scope_e type_e fits numeric numerics ty InE Fine view types_of shown_ty
 
-      pub fine : (e : Expr) (at : ℕ) → scope_e S at e ≡ Clean → type_e Γ at e ≡ Clean → InE v e → Fine π k (view S Γ) e
+      pub fine : (e : Expr) (at : ℕ) → scope_e S at e ≡ Ok tt → type_e Γ at e ≡ Ok tt → InE v e → Fine π k (view S Γ) e
       fine (num n) at s t i = i
       fine tru at s t i = tt
       fine fls at s t i = tt
@@ -91,7 +91,7 @@ module _ (S : Scope) (Γ : Types) where
           let h : f < k = rw 𝓟.func at i.0 in
           (h, i.1 ∙ 𝓟.arity f h, fines es (at + 1) s q.1 (required _ at q.0) i.2)
 
-      pub fines : (es : Exprs) (at : ℕ) → scope_es S at es ≡ Clean → type_es Γ at es ≡ Clean → T (numerics Γ es) → InEs v es → Fines π k (view S Γ) es
+      pub fines : (es : Exprs) (at : ℕ) → scope_es S at es ≡ Ok tt → type_es Γ at es ≡ Ok tt → T (numerics Γ es) → InEs v es → Fines π k (view S Γ) es
       fines none at s t n i = tt
       fines (more e es) at s t n i =
           let q = both_clean _ t in

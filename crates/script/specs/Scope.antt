@@ -3,7 +3,7 @@ use Rattle.std.specs.Prelude.{ℕ, ◌+◌, Bool, true, ltb}
 use Rattle.word.specs.Slots.{upd, Seen, hidden, fixed, defined, Scope, begin}
 use Rattle.script.specs.Tree.{Expr, num, tru, fls, var, get, lnot, bnot, bin, call, Exprs, none, more, Stmt, skip, seq, def, set, put, for, if, return, Stmts, done, next, Func, size_e, size_s}
 use Rattle.script.specs.Stage.{clean, fault, or_else, Walked, goes, stops, after, onward, refuse_if, ended}
-use Rattle.script.specs.declared.First.{First}
+use Rattle.script.specs.Stage.{First}
 
 -- what is visible, and which slots were declared so far (in the order of the records, visible or not)
 pub record Names : Type 0 where

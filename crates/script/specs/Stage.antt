@@ -2,19 +2,23 @@
 -- Assumes nothing: these are definitions.
 use Rattle.std.specs.Prelude.{ℕ, ◌+◌, Bool, true, false, List, [], ◌∷◌, length}
 use Rattle.script.specs.Tree.{Func, Program, size_f}
-use Rattle.script.specs.declared.First.{First}
-use Rattle.script.specs.declared.First.TheVariants.{Clean, Fault}
+use Rattle.std.specs.Prelude.{Ok, Err}
+use Rattle.word.specs.Refusals.{OrRefused, refuse}
+
+-- no fault, or the first record at fault in a stage
+abbrev pub First : Type 0
+First = OrRefused (Unit {0})
 
 abbrev pub clean : First
-clean = Clean
+clean = Ok tt
 
 abbrev pub fault : ℕ → ℕ → First
-fault number place = Fault number place
+fault number place = refuse number place
 
 -- the first of two, in the order of the records
 unfoldable pub or_else : First → First → First
-or_else Clean b = b
-or_else (Fault number place) b = Fault number place
+or_else (Ok u) b = b
+or_else (Err r) b = Err r
 
 -- a stage that carries something from statement to statement
 pub data Walked (A : Type 0) : Type 0 where
@@ -22,8 +26,8 @@ pub data Walked (A : Type 0) : Type 0 where
   stops : ℕ → ℕ → Walked A
 
 unfoldable pub after : {A : Type 0} → First → Walked A → Walked A
-after Clean w = w
-after (Fault number place) w = stops number place
+after (Ok u) w = w
+after (Err r) w = stops r.number r.place
 
 unfoldable pub onward : {A B : Type 0} → Walked A → (A → Walked B) → Walked B
 onward (goes a) g = g a

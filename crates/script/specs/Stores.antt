@@ -2,7 +2,7 @@
 use Rattle.std.specs.Prelude.{ℕ, ◌+◌, List, [], ◌∷◌}
 use Rattle.script.specs.Tree.{Stmt, skip, seq, def, set, put, for, if, return, Stmts, done, next, Func, Program, size_e, size_s, size_f}
 use Rattle.script.specs.Stage.{clean, fault, or_else, first_func}
-use Rattle.script.specs.declared.First.{First}
+use Rattle.script.specs.Stage.{First}
 
 unfoldable mutual
   pub store_s : ℕ → Stmt → First

@@ -4,7 +4,7 @@ use Rattle.word.specs.Types.{Ty, number, boolean, is_numeric, alike, op_ty, op_f
 use Rattle.word.specs.Slots.{upd}
 use Rattle.script.specs.Tree.{Expr, num, tru, fls, var, get, lnot, bnot, bin, call, Exprs, none, more, Stmt, skip, seq, def, set, put, for, if, return, Stmts, done, next, Func, size_e, size_s}
 use Rattle.script.specs.Stage.{clean, fault, or_else, Walked, goes, after, onward, ended}
-use Rattle.script.specs.declared.First.{First}
+use Rattle.script.specs.Stage.{First}
 
 -- the slots' types: "Parameters, loop slots are numbers; a DEF'd slot has its expression's". A slot is declared once, so nothing is taken back
 abbrev pub Types : Type 0

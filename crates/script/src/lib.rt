@@ -4,17 +4,10 @@
 
 // What a record's fields are tested against: how many slots and arrays there are, which function this is, and how many parameters each
 // lower one has (0 for the others).
-#[derive(Clone, Copy)]
+#[derive(Clone, Copy, Debug, PartialEq, Eq)]
 pub struct Env {
     pub slots: u32,
     pub arrays: u32,
     pub func: u32,
     pub params: [u32; 16],
-}
-
-// The first record at fault in a stage, with the refusal's number; or none is.
-#[derive(Clone, Copy)]
-pub enum First {
-    Clean,
-    Fault { number: u32, place: usize },
 }

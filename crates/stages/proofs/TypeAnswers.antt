@@ -6,7 +6,7 @@ use Rattle.word.specs.declared.Record.{Record}
 use Rattle.script.specs.Stage.{fault, Walked, goes, stops, onward}
 use Rattle.scoping.specs.Passes.{At, come, walk, then_first}
 use Rattle.stages.specs.Typed.{typing, Known, typed_func, walk_of, walked_of}
-use Rattle.script.specs.declared.First.{First}
+use Rattle.script.specs.Stage.{First}
 use Rattle.stages.specs.declared.types.Walk.{Walk}
 use Rattle.stages.specs.declared.types.Walk.TheVariants as walks
 

@@ -22,8 +22,7 @@ use Rattle.script.specs.Types.{ty, numeric, numerics, fits, require, type_e, typ
 use Rattle.scoping.specs.Passes.{params_of, arity_of}
 use Rattle.stages.specs.Typed.{ty_of, is_boolean, types_of, no_parts, with_part, gather, code_type, code_fits, type_by, fits_by, judged, typed_at}
 use Rattle.script.specs.declared.Env.{Env}
-use Rattle.script.specs.declared.First.{First}
-use Rattle.script.specs.declared.First.TheVariants.{Clean, Fault}
+use Rattle.script.specs.Stage.{First}
 use Rattle.stages.specs.declared.types.Typed.{Typed}
 use Rattle.stages.specs.declared.types.Parts.{Parts}
 use Rattle.script.proofs.Leading.{from}
@@ -31,6 +30,8 @@ use Rattle.scoping.proofs.Found.{finds}
 use Rattle.scoping.proofs.Past.{past_e}
 use Rattle.stages.proofs.Gathering.{typed_found}
 use Rattle.scoping.proofs.Together.{or_assoc}
+use Rattle.std.specs.Prelude.{Ok, Err}
+use Rattle.word.specs.Refusals.{refuse}
 
 -- ---- types as tests
 pub boolean_ty : (b : Bool) → is_boolean (ty_of b) ≡ b
@@ -105,8 +106,8 @@ and_true false = refl
 
 or_clean : (a : First) → a ≡ or_else a clean
 unfolding or_else
-or_clean Clean = refl
-or_clean (Fault n place) = refl
+or_clean (Ok u) = refl
+or_clean (Err r) = refl
 
 -- ---- an expression's answer
 abbrev answer : Bool → First → ℕ → Typed

@@ -26,7 +26,7 @@ use Rattle.script.specs.Types.{Types, ty, numeric, require, type_e, suits, type_
 use Rattle.scoping.specs.Passes.{At, come, noted, expressions_of, statements_of, nested, walk, then_first}
 use Rattle.stages.specs.Typed.{ty_of, is_boolean, types_of, no_parts, with_part, gather, suits_by, settled, judged_s, typed_at, typing, Known, typed_func, nobody, typed}
 use Rattle.script.specs.declared.Env.{Env}
-use Rattle.script.specs.declared.First.{First}
+use Rattle.script.specs.Stage.{First}
 use Rattle.script.proofs.Leading.{from}
 use Rattle.scoping.proofs.Past.{past_e, past_s}
 use Rattle.scoping.proofs.Together.{Together, both_go, go_on, go_after, go_to, go_as, go_first, onward_goes, onward_assoc, onward_after, after_after, enters, program_staged}

@@ -6,7 +6,7 @@ use Rattle.script.specs.Stage.{fault, or_else, over_program}
 use Rattle.script.specs.Scope.{scope_f}
 use Rattle.script.specs.Types.{type_f}
 use Rattle.script.specs.Stores.{stores}
-use Rattle.script.specs.declared.First.{First}
+use Rattle.script.specs.Stage.{First}
 
 -- 8 and 9; 10; 11
 unfoldable pub checked : Program → First

@@ -5,7 +5,7 @@ use Rattle.word.specs.Records.{records_of}
 use Rattle.word.specs.declared.Record.{Record}
 use Rattle.script.specs.Stage.{clean, fault}
 use Rattle.scoping.specs.Passes.{heading}
-use Rattle.script.specs.declared.First.{First}
+use Rattle.script.specs.Stage.{First}
 
 -- what the scan meets
 pub data Met : Type 0 where

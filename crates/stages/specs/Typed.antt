@@ -10,7 +10,7 @@ use Rattle.word.specs.declared.reader.Read.TheVariants.{Found, End}
 use Rattle.script.specs.Stage.{clean, or_else, Walked, goes, stops, after, onward}
 use Rattle.script.specs.Types.{Types, require}
 use Rattle.scoping.specs.Passes.{At, come, noted, expressions_of, arity_of, Turn, walk, Over, staged}
-use Rattle.script.specs.declared.First.{First}
+use Rattle.script.specs.Stage.{First}
 use Rattle.stages.specs.declared.types.Typed.{Typed}
 use Rattle.stages.specs.declared.types.Parts.{Parts}
 use Rattle.stages.specs.declared.types.Walk.{Walk}

@@ -12,7 +12,6 @@ use Rattle.tape.specs.Steps.{most, steps_from, steps_of, steps_exposed}
 use Rattle.tape.specs.Scan.{Scan, known_at, start}
 use Rattle.tape.specs.Faults.{more}
 use Rattle.tape.specs.Check.{within, at_end, check}
-use Rattle.tape.specs.declared.Checked.TheVariants.{Accepted}
 use Rattle.tape.proofs.Places.{scan_at, never, Passed, passed}
 use Rattle.tape.proofs.Reading.{code_length, code_from}
 use Rattle.tape.proofs.Written.{words_code}
@@ -22,6 +21,7 @@ use Rattle.tape.proofs.Knowing.{knows_steps, within_most}
 use Rattle.tape.proofs.Finished.{funcs_all, steps_length, sounds_all, Finished}
 use Rattle.tape.proofs.Stands.{Stands, program_due, array_due, function_due, body_due, nothing_due}
 use Rattle.tape.proofs.Postfix.{stands_next}
+use Rattle.std.specs.Prelude.{Ok, Err}
 
 pub record ProgramOf (t : List ℕ) (m : ℕ) : Type 0 where
   pub program : CProgram
@@ -39,7 +39,7 @@ module _ (t : List ℕ) (m : ℕ) (p : Passed t m) where
 
   -- after the last function
   ended : (s : Scan) → Finished s.functions s.arrays s.known (code_of t) [] → length s.known ≡ s.functions
-      → within s.known (Accepted (known_at s (length s.known - 1)).steps) ≡ Accepted m → ProgramOf t m
+      → within s.known (Ok (known_at s (length s.known - 1)).steps) ≡ Ok m → ProgramOf t m
   unfolding instructions tape steps_of steps_exposed
   ended s d l e =
       let (each, last) = within_most s.known _ m e in
@@ -62,7 +62,7 @@ module _ (t : List ℕ) (m : ℕ) (p : Passed t m) where
             };
       }
 
-  ends : (s : Scan) (at : ℕ) → Stands (code_of t) [] s at → at_end (more s.due) s at ≡ Accepted m → ProgramOf t m
+  ends : (s : Scan) (at : ℕ) → Stands (code_of t) [] s at → at_end (more s.due) s at ≡ Ok m → ProgramOf t m
   unfolding at_end more
   ends s at (program_due d is z) e = absurd (never (rw d at e))
   ends s at (array_due d ns h k l few is) e = absurd (never (rw d at e))
@@ -75,7 +75,7 @@ module _ (t : List ℕ) (m : ℕ) (p : Passed t m) where
       let none = drop_of_length-le (code_of t) {i = records t} (omega (arith, code_length t)) in
       ends (scan_at t (records t)) (records t) (rw none at (stands_at (records t) (omega arith))) p.ends
 
-pub accepted_is_program : (t : List ℕ) (m : ℕ) → check t ≡ Accepted m → ProgramOf t m
+pub accepted_is_program : (t : List ℕ) (m : ℕ) → check t ≡ Ok m → ProgramOf t m
 accepted_is_program t m e = program_of t m (passed t m e)
 
 -- each function's steps, by its number

@@ -19,7 +19,6 @@ use Rattle.tape.specs.Steps.{steps_s, steps_f, steps_from, steps_of, steps_expos
 use Rattle.tape.specs.Scan.{Due, an_array, a_function, nothing, Known, Scan, opening, start, in_body, headed, arrayed, enters, returns, next}
 use Rattle.tape.specs.Faults.{due, more, asks}
 use Rattle.tape.specs.Check.{at_end, scan, check}
-use Rattle.tape.specs.declared.Checked.TheVariants.{Accepted}
 use Rattle.tape.proofs.Sound.{after_s, SoundF, SoundFrom, the_last, one_more, params_at, Sound}
 use Rattle.tape.proofs.Limits.{Each, none, one, FitsF, Limits}
 use Rattle.tape.proofs.Asked.{Met, just_iff}
@@ -27,6 +26,7 @@ use Rattle.tape.proofs.Knowing.{Knows, knows_none, knows_steps, knows_length, kn
 use Rattle.tape.proofs.Finished.{steps_length}
 use Rattle.tape.proofs.Accepted.{ProgramOf, accepted_is_program}
 use Rattle.tape.proofs.Scanning.{goes_on, body_of, s_scans}
+use Rattle.std.specs.Prelude.{Ok, Err}
 
 -- the scan comes from the code c in the state s to the code c₁, where w is due; the functions that it knows there have these parameters and steps
 record Comes (s : Scan) (at : ℕ) (c : Code) (w : Due) (π : ℕ → ℕ) (steps : List ℕ) (c₁ : Code) : Type 0 where
@@ -121,14 +121,14 @@ arrays_come π (one {x} {xs} h r) s at c d k l =
 
 -- ---- the whole tape
 ended : (p : CProgram) → Limits p → (s : Scan) (at : ℕ) → s.due ≡ nothing → Knows s.known (params_at p.funcs) (steps_of p)
-    → scan s at [] ≡ Accepted (steps_exposed p)
+    → scan s at [] ≡ Ok (steps_exposed p)
 unfolding scan at_end more steps_exposed steps_of
 ended p l s at d k =
     let e : length s.known - 1 ≡ length p.funcs - 1 = omega (arith, knows_length k, steps_length [] p.funcs) in
     rw (d, e)
-    (most_within s.known _ (rw k.all_steps l.within) ∙ ap (λ (n : ℕ). Accepted n) (knows_steps k (length p.funcs - 1)))
+    (most_within s.known _ (rw k.all_steps l.within) ∙ ap (λ (n : ℕ). Ok n) (knows_steps k (length p.funcs - 1)))
 
-scanned : (p : CProgram) → Sound p → Limits p → scan start 0 (map write (instructions p)) ≡ Accepted (steps_exposed p)
+scanned : (p : CProgram) → Sound p → Limits p → scan start 0 (map write (instructions p)) ≡ Ok (steps_exposed p)
 unfolding instructions next headed start asks due more write steps_of
 scanned p h l =
     let fs = p.funcs in
@@ -143,7 +143,7 @@ scanned p h l =
     goes_on start 0 (program (length fs) (length ns)) (tape_arrays ns (tape_fs fs)) refl refl fine
     ∙ a.is ∙ b.is ∙ ended p l b.state b.place b.now b.knows
 
-pub admitted : (p : CProgram) → Sound p → Limits p → check (tape p) ≡ Accepted (steps_exposed p)
+pub admitted : (p : CProgram) → Sound p → Limits p → check (tape p) ≡ Ok (steps_exposed p)
 unfolding check tape words instructions
 admitted p h l =
     let xs = map write (instructions p) in
@@ -152,5 +152,5 @@ admitted p h l =
     rw (size, records_words xs) (scanned p h l)
 
 -- a tape is accepted exactly if it is the tape of such a tree
-pub accepted_exactly : (t : List ℕ) (m : ℕ) → (check t ≡ Accepted m) ↔ ProgramOf t m
+pub accepted_exactly : (t : List ℕ) (m : ℕ) → (check t ≡ Ok m) ↔ ProgramOf t m
 accepted_exactly t m = (accepted_is_program t m, λ q. rw (q.words_are, q.steps) (admitted q.program q.sound q.limits))

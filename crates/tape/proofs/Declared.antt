@@ -15,7 +15,6 @@ use Rattle.tape.specs.Scan.{Due, a_program, an_array, a_function, a_body, nothin
 use Rattle.tape.specs.Faults.{due, more, asks}
 use Rattle.tape.specs.Entries.{lengths_of, entries_of, entry_at, exposed}
 use Rattle.tape.specs.Check.{at_end}
-use Rattle.tape.specs.declared.Checked.TheVariants.{Accepted}
 use Rattle.tape.proofs.Cases.{read_array, read_program}
 use Rattle.tape.proofs.Reading.{code_from, code_length}
 use Rattle.tape.proofs.Places.{scan_at, Passed}
@@ -23,8 +22,9 @@ use Rattle.tape.proofs.Declaring.{arrays_before, functions_before, length_at, le
 use Rattle.tape.proofs.Steady.{Fine, fine_at, both}
 use Rattle.tape.proofs.Entered.{began, StandsAt}
 use Rattle.tape.proofs.Positions.{placed_at, entry_there}
+use Rattle.std.specs.Prelude.{Ok, Err}
 
-over_by : (d : Due) (s : Scan) (n m : ℕ) → at_end (more d) s n ≡ Accepted m → d ≡ nothing
+over_by : (d : Due) (s : Scan) (n m : ℕ) → at_end (more d) s n ≡ Ok m → d ≡ nothing
 unfolding more at_end
 over_by a_program s n m e = let z : ◌≡◌ {A = ℕ} 0 1 = cc in absurd (omega arith)
 over_by an_array s n m e = let z : ◌≡◌ {A = ℕ} 0 1 = cc in absurd (omega arith)

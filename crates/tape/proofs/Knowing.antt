@@ -13,10 +13,10 @@ use lib.Seq.{get_or-append_seam}
 use Rattle.tape.specs.Steps.{most}
 use Rattle.tape.specs.Scan.{Known}
 use Rattle.tape.specs.Check.{unless_over, within}
-use Rattle.tape.specs.declared.Checked.{Checked}
-use Rattle.tape.specs.declared.Checked.TheVariants.{Accepted}
+use Rattle.tape.specs.Check.{Checked}
 use Rattle.tape.proofs.Places.{never}
 use Rattle.tape.proofs.Limits.{Each, none, one}
+use Rattle.std.specs.Prelude.{Ok, Err}
 
 -- what the scan says of a function that it does not know
 abbrev pub unknown : Known
@@ -53,16 +53,16 @@ module _ {known : List Known} {π : ℕ → ℕ} {steps : List ℕ} (k : Knows k
       by f (inr l) = rw (get_or-append known (g ∷ []) unknown f l) (k.params f l)
 
 -- ---- 30: no function is over the limit
-not_over : (b : Bool) (place m : ℕ) (rest : Checked) → unless_over b place rest ≡ Accepted m → (b ≡ true) × (rest ≡ Accepted m)
+not_over : (b : Bool) (place m : ℕ) (rest : Checked) → unless_over b place rest ≡ Ok m → (b ≡ true) × (rest ≡ Ok m)
 unfolding unless_over
 not_over true place m rest e = (refl, e)
 not_over false place m rest e = absurd (never e)
 
-pub within_most : (known : List Known) (n m : ℕ) → within known (Accepted n) ≡ Accepted m → Each (λ k. k ≤ most) (map (λ f. f.steps) known) × (n ≡ m)
+pub within_most : (known : List Known) (n m : ℕ) → within known (Ok n) ≡ Ok m → Each (λ k. k ≤ most) (map (λ f. f.steps) known) × (n ≡ m)
 unfolding within
 within_most [] n m e = (none, cc)
 within_most (f ∷ known) n m e =
-    let (b, rest) = not_over (leb f.steps most) f.place m (within known (Accepted n)) e in
+    let (b, rest) = not_over (leb f.steps most) f.place m (within known (Ok n)) e in
     let (each, last) = within_most known n m rest in
     (one (leb-true f.steps most b) each, last)
 

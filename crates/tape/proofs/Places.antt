@@ -15,8 +15,9 @@ use Rattle.tape.specs.Instruction.{read, write}
 use Rattle.tape.specs.Scan.{Scan, start, next}
 use Rattle.tape.specs.Faults.{due, more, asks, unless, unmet, fault}
 use Rattle.tape.specs.Check.{at_end, judge, scan, check}
-use Rattle.tape.specs.declared.Checked.{Checked}
-use Rattle.tape.specs.declared.Checked.TheVariants.{Accepted, Refused}
+use Rattle.tape.specs.Check.{Checked}
+use Rattle.std.specs.Prelude.{Ok, Err}
+use Rattle.word.specs.Refusals.{refuse}
 
 unfoldable pub scan_at : List ℕ → ℕ → Scan
 scan_at t zero = start
@@ -50,15 +51,15 @@ clean s x e =
     record { due_now = a.0; kind = b.0; unused = c.0; range = d.0; loops = f.0; operands = g.0; slot = h.0 }
 
 -- ---- an accepted tape
-pub never : {number place m : ℕ} → Refused number place ≡ Accepted m → ⊥
+pub never : {number place m : ℕ} → refuse number place ≡ Ok m → ⊥
 never e = let z : ◌≡◌ {A = ℕ} 0 1 = cc in omega arith
 
-judged : (n at m : ℕ) (rest : Checked) → judge n at rest ≡ Accepted m → (n ≡ 0) × (rest ≡ Accepted m)
+judged : (n at m : ℕ) (rest : Checked) → judge n at rest ≡ Ok m → (n ≡ 0) × (rest ≡ Ok m)
 unfolding judge
 judged zero at m rest e = (refl, e)
 judged (suc n) at m rest e = absurd (never e)
 
-sized_or : (b : Bool) (rest : Checked) (m : ℕ) → cond b rest (Refused 21 0) ≡ Accepted m → (b ≡ true) × (rest ≡ Accepted m)
+sized_or : (b : Bool) (rest : Checked) (m : ℕ) → cond b rest (refuse 21 0) ≡ Ok m → (b ≡ true) × (rest ≡ Ok m)
 sized_or true rest m e = (refl, e)
 sized_or false rest m e = absurd (never e)
 
@@ -67,13 +68,13 @@ pub record Passed (t : List ℕ) (m : ℕ) : Type 0 where
   pub whole : length t ≡ records t + records t + records t + records t
   pub few : records t ≤ 131072
   pub faultless : (i : ℕ) → i < records t → Clean (scan_at t i) (record_at t i)
-  pub ends : at_end (more (scan_at t (records t)).due) (scan_at t (records t)) (records t) ≡ Accepted m
+  pub ends : at_end (more (scan_at t (records t)).due) (scan_at t (records t)) (records t) ≡ Ok m
 
 record Rest (t : List ℕ) (m i : ℕ) : Type 0 where
   faultless : (j : ℕ) → i ≤ j → j < records t → Clean (scan_at t j) (record_at t j)
-  ends : at_end (more (scan_at t (records t)).due) (scan_at t (records t)) (records t) ≡ Accepted m
+  ends : at_end (more (scan_at t (records t)).due) (scan_at t (records t)) (records t) ≡ Ok m
 
-walk : (t : List ℕ) (m n i : ℕ) → i + n ≡ records t → scan (scan_at t i) i (drop i (records_of t)) ≡ Accepted m → Rest t m i
+walk : (t : List ℕ) (m n i : ℕ) → i + n ≡ records t → scan (scan_at t i) i (drop i (records_of t)) ≡ Ok m → Rest t m i
 unfolding scan scan_at
 walk t m zero i l e =
     let q : i ≡ records t = omega arith in
@@ -92,7 +93,7 @@ walk t m (suc n) i l e =
       ends = rest.ends;
     }
 
-pub passed : (t : List ℕ) (m : ℕ) → check t ≡ Accepted m → Passed t m
+pub passed : (t : List ℕ) (m : ℕ) → check t ≡ Ok m → Passed t m
 unfolding check scan_at
 passed t m e =
     let g = sized_or (sized 131072 (length t)) (scan start 0 (records_of t)) m e in

@@ -3,10 +3,3 @@
 #![tactic(auto)]
 
 pub mod held;
-
-// Accepted, with the steps of the exposed function; or the first refusal.
-#[derive(Clone, Copy)]
-pub enum Checked {
-    Accepted { steps: u32 },
-    Refused { number: u32, place: usize },
-}

@@ -10,7 +10,6 @@ use Rattle.script.specs.Types.{type_f}
 use Rattle.script.specs.Stores.{stores}
 use Rattle.script.specs.Plain.{plain}
 use Rattle.script.specs.Written.{Within}
-use Rattle.script.specs.declared.First.TheVariants.{Clean}
 use Rattle.script.proofs.Walks.{both_clean}
 use Rattle.script.proofs.Judging.{accepted_sound}
 use Rattle.tape.specs.Rules.{World}
@@ -21,14 +20,15 @@ use Rattle.translation.specs.Compile.{costs, stages, first_of}
 use Rattle.translation.proofs.Expressions.{Same}
 use Rattle.translation.proofs.Correct.{correct}
 use Rattle.translation.proofs.Translated.{translated_sound}
+use Rattle.std.specs.Prelude.{Ok, Err}
 
 pub record Stages (p : Program) : Type 0 where
-  pub scope : over_program scope_f p ≡ Clean
-  pub types : over_program type_f p ≡ Clean
-  pub helpers : stores p ≡ Clean
-  pub steps : costs p ≡ Clean
+  pub scope : over_program scope_f p ≡ Ok tt
+  pub types : over_program type_f p ≡ Ok tt
+  pub helpers : stores p ≡ Ok tt
+  pub steps : costs p ≡ Ok tt
 
-pub stages_clean : (p : Program) → first_of stages p ≡ Clean → Stages p
+pub stages_clean : (p : Program) → first_of stages p ≡ Ok tt → Stages p
 unfolding first_of stages
 stages_clean p h =
     let a = both_clean _ h in
@@ -36,9 +36,9 @@ stages_clean p h =
     let c = both_clean _ b.1 in
     record { scope = a.0; types = b.0; helpers = c.0; steps = (both_clean _ c.1).0 }
 
-pub accepted_correct : (p : Program) → Within p → first_of stages p ≡ Clean → {arguments m : List ℕ} → Words arguments → Bytes m
+pub accepted_correct : (p : Program) → Within p → first_of stages p ≡ Ok tt → {arguments m : List ℕ} → Words arguments → Bytes m
     → (w : World) → w.bytes ≡ m → Same (cprogram (translate p) arguments w) (plain p arguments m)
 accepted_correct p i h = let s = stages_clean p h in correct p (accepted_sound p i s.scope s.types s.helpers)
 
-pub accepted_translated : (p : Program) → Within p → first_of stages p ≡ Clean → Sound (translate p)
+pub accepted_translated : (p : Program) → Within p → first_of stages p ≡ Ok tt → Sound (translate p)
 accepted_translated p i h = translated_sound p i (stages_clean p h).scope

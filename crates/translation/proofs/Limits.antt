@@ -9,13 +9,11 @@ use lib.Dec.{leb}
 use lib.ListN.{length, length-map}
 use Rattle.script.specs.Tree.{Func, Program, size_f}
 use Rattle.script.specs.Written.{InArrays, no_array, an_array, Within}
-use Rattle.script.specs.declared.First.{First}
-use Rattle.script.specs.declared.First.TheVariants.{Clean}
+use Rattle.script.specs.Stage.{First}
 use Rattle.script.proofs.Walks.{faulty}
 use Rattle.tape.specs.Tape.{tape}
 use Rattle.tape.specs.Steps.{most, steps_of, steps_exposed}
 use Rattle.tape.specs.Check.{check}
-use Rattle.tape.specs.declared.Checked.TheVariants.{Accepted}
 use Rattle.tape.proofs.Finished.{steps_length}
 use Rattle.tape.proofs.Limits.{Each, none, one, Limits}
 use Rattle.tape.proofs.Admitted.{admitted}
@@ -24,14 +22,15 @@ use Rattle.translation.specs.Compile.{unless_over, within, costs, stages, first_
 use Rattle.translation.proofs.Accepted.{stages_clean, accepted_translated}
 use Rattle.translation.proofs.Sizes.{tape_most}
 use Rattle.translation.proofs.Ranges.{translated_fit}
+use Rattle.std.specs.Prelude.{Ok, Err}
 
 -- 12: no function takes more steps than that
-unless_clean : (b : Bool) (place : ℕ) {rest : First} → unless_over b place rest ≡ Clean → (b ≡ true) × (rest ≡ Clean)
+unless_clean : (b : Bool) (place : ℕ) {rest : First} → unless_over b place rest ≡ Ok tt → (b ≡ true) × (rest ≡ Ok tt)
 unfolding unless_over
 unless_clean true place e = (refl, e)
 unless_clean false place e = absurd (faulty e)
 
-steps_most : (at : ℕ) (fs : List Func) (steps : List ℕ) → length steps ≡ length fs → within at fs steps ≡ Clean → Each (λ n. n ≤ most) steps
+steps_most : (at : ℕ) (fs : List Func) (steps : List ℕ) → length steps ≡ length fs → within at fs steps ≡ Ok tt → Each (λ n. n ≤ most) steps
 unfolding within
 steps_most at [] [] l e = none
 steps_most at [] (n ∷ steps) l e = absurd (omega arith)
@@ -44,7 +43,7 @@ each_length : {lengths : List ℕ} → InArrays lengths → Each (λ n. (1 ≤ n
 each_length no_array = none
 each_length (an_array l m r) = one (l, m) (each_length r)
 
-pub translated_limits : (p : Program) → Within p → first_of stages p ≡ Clean → Limits (translate p)
+pub translated_limits : (p : Program) → Within p → first_of stages p ≡ Ok tt → Limits (translate p)
 unfolding translate costs steps_of
 translated_limits p w h =
     let functions = length-map p.funcs FDEFT in
@@ -62,5 +61,5 @@ translated_limits p w h =
       within = steps_most _ p.funcs steps (omega (arith, steps_length [] (translate p).funcs)) (stages_clean p h).steps;
     }
 
-pub tape_accepted : (p : Program) → Within p → first_of stages p ≡ Clean → check (tape (translate p)) ≡ Accepted (steps_exposed (translate p))
+pub tape_accepted : (p : Program) → Within p → first_of stages p ≡ Ok tt → check (tape (translate p)) ≡ Ok (steps_exposed (translate p))
 tape_accepted p w h = admitted (translate p) (accepted_translated p w h) (translated_limits p w h)

@@ -16,7 +16,6 @@ use Rattle.script.specs.Written.{count_e, InE, InEs, Inside, Insides, head_of, I
 use Rattle.script.specs.Stage.{goes, each_func, first_func, over_program}
 use Rattle.script.specs.Scope.{Names, readable as seeable, settable as writable, scope_e, scope_es, declare, scope_s, scope_ss, scope_f}
 use Rattle.script.specs.declared.Env.{Env}
-use Rattle.script.specs.declared.First.TheVariants.{Clean}
 use Rattle.script.proofs.Walks.{faulty, both_clean, after_goes, onward_goes, refuse_goes, ended_clean}
 use Rattle.script.proofs.Scoping.{closed, close_goes}
 use Rattle.script.proofs.Judged.{params_at}
@@ -28,14 +27,15 @@ use Rattle.tape.proofs.Staying.{was_hidden}
 use Rattle.translation.specs.Translate.{layout, EXT, EXTs, context, masking, merge, STT, STTs, FDEFT, translate}
 use Rattle.translation.proofs.Relation.{rval, rnset, condition}
 use Rattle.translation.proofs.Standing.{Stands, stands_declare, stands_deeper, stands_shallower, stands_closed, stands_loop, begin_definable, stands_begin}
+use Rattle.std.specs.Prelude.{Ok, Err}
 
-seen_readable : (z : Seen) (at : ℕ) → seeable z at ≡ Clean → readable z ≡ true
+seen_readable : (z : Seen) (at : ℕ) → seeable z at ≡ Ok tt → readable z ≡ true
 unfolding seeable readable
 seen_readable hidden at e = absurd (faulty e)
 seen_readable fixed at e = refl
 seen_readable defined at e = refl
 
-set_defined : (z : Seen) (at : ℕ) → writable z at ≡ Clean → defined ≡ z
+set_defined : (z : Seen) (at : ℕ) → writable z at ≡ Ok tt → defined ≡ z
 unfolding writable
 set_defined hidden at e = absurd (faulty e)
 set_defined fixed at e = absurd (faulty e)
@@ -55,7 +55,7 @@ module _ (π : ℕ → ℕ) (k : ℕ) (v : Env) (𝓟 : Places π k v) where
     mutual
       unfolding scope_e InE EXT SoundE
 
-      expr_sound : (e : Expr) (at : ℕ) → scope_e N.seen at e ≡ Clean → InE v e → SoundE π k D (EXT e)
+      expr_sound : (e : Expr) (at : ℕ) → scope_e N.seen at e ≡ Ok tt → InE v e → SoundE π k D (EXT e)
       expr_sound (num x) at s i = tt
       expr_sound tru at s i = tt
       expr_sound fls at s i = tt
@@ -70,7 +70,7 @@ module _ (π : ℕ → ℕ) (k : ℕ) (v : Env) (𝓟 : Places π k v) where
           let h : f < k = rw 𝓟.func at i.0 in
           (h, arguments_count es ∙ i.1 ∙ 𝓟.arity f h, exprs_sound es (at + 1) s i.2)
 
-      exprs_sound : (es : Exprs) (at : ℕ) → scope_es N.seen at es ≡ Clean → InEs v es → SoundEs π k D (EXTs es)
+      exprs_sound : (es : Exprs) (at : ℕ) → scope_es N.seen at es ≡ Ok tt → InEs v es → SoundEs π k D (EXTs es)
       exprs_sound none at s i = tt
       exprs_sound (more e es) at s i =
           let b = both_clean _ s in
@@ -110,13 +110,13 @@ module _ (π : ℕ → ℕ) (k : ℕ) (v : Env) (𝓟 : Places π k v) where
   goes_as {M} {O} e h = let q : M ≡ O = cc in ends_as q h
 
   module _ {d : ℕ} {N : Names} {D : Scope} (st : Stands n d N D) where
-    def_holds : (x : ℕ) (e : Expr) (at : ℕ) → x < n → N.declared x ≡ false → scope_e N.seen at e ≡ Clean → InE v e
+    def_holds : (x : ℕ) (e : Expr) (at : ℕ) → x < n → N.declared x ≡ false → scope_e N.seen at e ≡ Ok tt → InE v e
         → Holds d D (STT (layout n) d (def x e)) (declare N x defined)
     unfolding STT SoundS after_s definable
     def_holds x e at l u s i =
         record { sound = (ap definable (st.unnamed x l u), expr_sound st e at s i); stands = stands_declare defined l st }
 
-    set_holds : (x : ℕ) (e : Expr) (at : ℕ) → writable (N.seen x) at ≡ Clean → scope_e N.seen (at + 1) e ≡ Clean → InE v e
+    set_holds : (x : ℕ) (e : Expr) (at : ℕ) → writable (N.seen x) at ≡ Ok tt → scope_e N.seen (at + 1) e ≡ Ok tt → InE v e
         → Holds d D (STT (layout n) d (set x e)) N
     unfolding STT SoundS SoundE after_s readable
     set_holds x e at w s i =
@@ -127,14 +127,14 @@ module _ (π : ℕ → ℕ) (k : ℕ) (v : Env) (𝓟 : Places π k v) where
           stands = st;
         }
 
-    put_holds : (a : ℕ) (j e : Expr) (at : ℕ) → scope_e N.seen at j ≡ Clean → scope_e N.seen (at + size_e j) e ≡ Clean → InE v j → InE v e
+    put_holds : (a : ℕ) (j e : Expr) (at : ℕ) → scope_e N.seen at j ≡ Ok tt → scope_e N.seen (at + size_e j) e ≡ Ok tt → InE v j → InE v e
         → Holds d D (STT (layout n) d (put a j e)) N
     unfolding STT SoundS SoundE after_s
     put_holds a j e at s t i h =
         let index = expr_sound st j at s i in
         record { sound = (index, merge_sound st (EXT e) (GET a (EXT j)) (expr_sound st e (at + size_e j) t h) index); stands = st }
 
-    return_holds : (e : Expr) (at : ℕ) → scope_e N.seen at e ≡ Clean → InE v e → Holds d D (STT (layout n) d (return e)) N
+    return_holds : (e : Expr) (at : ℕ) → scope_e N.seen at e ≡ Ok tt → InE v e → Holds d D (STT (layout n) d (return e)) N
     unfolding STT SoundS SoundE after_s
     return_holds e at s i =
         record {
@@ -160,7 +160,7 @@ module _ (π : ℕ → ℕ) (k : ℕ) (v : Env) (𝓟 : Places π k v) where
         outside y (no e) h = sym (upd_other D x fixed y e) ∙ h
 
     -- an IF, from its branches: the first stands where the condition is DEF'd, the second where the first has ended
-    if_holds : (c : Expr) (at : ℕ) (s t : Stmt) (M O : Names) → scope_e N.seen at c ≡ Clean → InE v c
+    if_holds : (c : Expr) (at : ℕ) (s t : Stmt) (M O : Names) → scope_e N.seen at c ≡ Ok tt → InE v c
         → Holds (suc d) (upd D (condition n d) defined) (STT (layout n) (suc d) s) M
         → Holds (suc d) (after_s (upd D (condition n d) defined) (STT (layout n) (suc d) s)) (STT (layout n) (suc d) t) O
         → Holds d D (STT (layout n) d (if c s t)) (closed N O)
@@ -226,7 +226,7 @@ module _ (π : ℕ → ℕ) (k : ℕ) (v : Env) (𝓟 : Places π k v) where
         record { sound = (w.sound, u.sound); stands = u.stands }
 
 -- ---- functions and the program
-func_sound : (π : ℕ → ℕ) (k at : ℕ) (f : Func) {v : Env} → Places π k (entered v (head_of f)) → InFunc v f → scope_f at f ≡ Clean → SoundF π k (FDEFT f)
+func_sound : (π : ℕ → ℕ) (k at : ℕ) (f : Func) {v : Env} → Places π k (entered v (head_of f)) → InFunc v f → scope_f at f ≡ Ok tt → SoundF π k (FDEFT f)
 unfolding scope_f entered FDEFT SoundS SoundE after_s readable
 func_sound π k at f {v} 𝓟 h s =
     let a = ended_clean _ s in
@@ -241,7 +241,7 @@ func_sound π k at f {v} 𝓟 h s =
       ret = ap readable w.stands.value;
     }
 
-funcs_sound : (π : ℕ → ℕ) (k at : ℕ) (fs : List Func) → 1 ≤ length fs → Ordered π k fs → each_func scope_f at fs ≡ Clean → SoundFrom π k (map FDEFT fs)
+funcs_sound : (π : ℕ → ℕ) (k at : ℕ) (fs : List Func) → 1 ≤ length fs → Ordered π k fs → each_func scope_f at fs ≡ Ok tt → SoundFrom π k (map FDEFT fs)
 unfolding each_func
 funcs_sound π k at [] l o s = absurd (not-suc-le-zero l)
 funcs_sound π k at (f ∷ []) l (a_func 𝓟 i o) s = the_last (func_sound π k at f 𝓟 i (both_clean _ s).0)
@@ -257,7 +257,7 @@ params_same (g ∷ gs) zero = refl
 params_same (g ∷ gs) (suc f) = params_same gs f
 
 -- what comes out of a script in whose scope no fault was found
-pub translated_sound : (p : Program) → Within p → over_program scope_f p ≡ Clean → Sound (translate p)
+pub translated_sound : (p : Program) → Within p → over_program scope_f p ≡ Ok tt → Sound (translate p)
 unfolding over_program translate
 translated_sound p w s =
     subst (λ (π : ℕ → ℕ). SoundFrom π 0 (map FDEFT p.funcs)) (fun_ext (params_same p.funcs))

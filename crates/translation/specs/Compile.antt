@@ -9,13 +9,13 @@ use Rattle.script.specs.Stage.{clean, fault, or_else, first_func, over_program}
 use Rattle.script.specs.Scope.{scope_f}
 use Rattle.script.specs.Types.{type_f}
 use Rattle.script.specs.Stores.{stores}
-use Rattle.script.specs.declared.First.{First}
-use Rattle.script.specs.declared.First.TheVariants.{Clean, Fault}
+use Rattle.script.specs.Stage.{First}
 use Rattle.tape.specs.Tape.{tape}
 use Rattle.tape.specs.Steps.{most, steps_of, steps_exposed}
 use Rattle.translation.specs.Translate.{translate}
-use Rattle.translation.specs.declared.Compiled.{Compiled}
-use Rattle.translation.specs.declared.Compiled.TheVariants.{Tape, Refused}
+use Rattle.translation.specs.declared.Tape.{Tape}
+use Rattle.std.specs.Prelude.{Ok, Err}
+use Rattle.word.specs.Refusals.{OrRefused, refuse}
 
 -- 12: "a function's steps, its calls included, over 1,000,000,000", at its FUNC
 unfoldable pub unless_over : Bool → ℕ → First → First
@@ -38,6 +38,13 @@ unfoldable pub first_of : List (Program → First) → Program → First
 first_of [] p = clean
 first_of (stage ∷ rest) p = or_else (stage p) (first_of rest p)
 
+abbrev pub announced : ℕ → ℕ → Tape
+announced records' steps = record { records = records'; steps = steps }
+
+-- accepted, with the tape's records and steps; or refused
+abbrev pub Compiled : Type 0
+Compiled = OrRefused Tape
+
 -- the answer, and the output at exit: "Accepted: records written and the exposed function's steps; only those records change"
 pub record Result : Type 0 where
   pub answer : Compiled
@@ -46,16 +53,16 @@ pub record Result : Type 0 where
 -- 13: "output has fewer than four words for each record needed", place "records needed"
 unfoldable pub written : Bool → Program → List ℕ → Result
 written true p out =
-    record { answer = Tape (records (tape (translate p))) (steps_exposed (translate p)); out = sets out 0 (tape (translate p)) }
-written false p out = record { answer = Refused 13 (records (tape (translate p))); out = out }
+    record { answer = Ok (announced (records (tape (translate p))) (steps_exposed (translate p))); out = sets out 0 (tape (translate p)) }
+written false p out = record { answer = refuse 13 (records (tape (translate p))); out = out }
 
 unfoldable pub unless_fault : First → Program → List ℕ → Result
-unless_fault Clean p out = written (leb (length (tape (translate p))) (length out)) p out
-unless_fault (Fault number place) p out = record { answer = Refused number place; out = out }
+unless_fault (Ok u) p out = written (leb (length (tape (translate p))) (length out)) p out
+unless_fault (Err r) p out = record { answer = Err r; out = out }
 
 unfoldable pub compile_by : Parsed Program → List ℕ → Result
 compile_by (parsed p i) out = unless_fault (first_of stages p) p out
-compile_by (refused number place) out = record { answer = Refused number place; out = out }
+compile_by (refused number place) out = record { answer = refuse number place; out = out }
 
 unfoldable pub compile : List ℕ → List ℕ → Result
 compile table out = compile_by (read_table table) out
@@ -66,9 +73,9 @@ pub data Case : Type 0 where
   refusal : ℕ → Case
 
 unfoldable pub case_of : Compiled → Case
-case_of (Tape records' steps) = accepted
-case_of (Refused number place) = refusal number
+case_of (Ok w) = accepted
+case_of (Err r) = refusal r.number
 
 unfoldable pub values_of : Compiled → List ℕ
-values_of (Tape records' steps) = records' ∷ steps ∷ []
-values_of (Refused number place) = place ∷ []
+values_of (Ok w) = w.records ∷ w.steps ∷ []
+values_of (Err r) = r.place ∷ []

@@ -5,4 +5,5 @@ pub mod Memory
 pub mod Records
 pub mod Walk
 pub mod Members
+pub mod Refused
 pub mod Computes

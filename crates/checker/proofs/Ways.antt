@@ -10,7 +10,7 @@ use Rattle.word.specs.Records.{records, record_at, records_of}
 use Rattle.word.specs.Reader.{read_at}
 use Rattle.word.specs.declared.Record.{Record}
 use Rattle.word.specs.declared.reader.Reader.{Reader}
-use Rattle.word.specs.declared.reader.Read.TheVariants.{Found, End}
+use Rattle.std.specs.Prelude.{Some, None}
 use Rattle.word.proofs.Walk.{read_found, read_end}
 use Rattle.tape.specs.Scan.{start}
 use Rattle.tape.specs.Faults.{more, fault}
@@ -38,11 +38,11 @@ module _ {t : List ℕ} {s : Standing} {f : Functions} {b : Bodies} {at : ℕ} (
   body_room kind d₀ d e h = omega (arith, searched_le kind s.deep, deep_is s f b, here.within.loops)
 
   -- after the last record
-  pub scan_ends : End ≡ read_at t at → judge 0 at (at_end (more (due_of s.due)) (scan_of s f b) at) ≡ scan start 0 (records_of t)
+  pub scan_ends : None ≡ read_at t at → judge 0 at (at_end (more (due_of s.due)) (scan_of s f b) at) ≡ scan start 0 (records_of t)
   scan_ends e = stands_end t s f b at here (read_end t at (sym e))
 
   -- a record is read
-  module _ {x : Record} {m : Reader} (e : Found x m ≡ read_at t at) where
+  module _ {x : Record} {m : Reader} (e : Some (x, m) ≡ read_at t at) where
     pub is_there : (at < records t) × (x ≡ record_at t at) × (m.at ≡ at + 1)
     is_there = read_found t at x m (sym e)
 
@@ -86,6 +86,6 @@ module _ {s : Standing} {f : Functions} {b : Bodies} {x : Record} {high d₀ d :
   allowed n seen out = slot_allowed s f b x q.clear n high d₀ d q.most q.from q.so_far seen out
 
 -- 29, at the record that is read
-pub slot_stops : {t : List ℕ} {s : Standing} {f : Functions} {b : Bodies} {at : ℕ} {x : Record} {m : Reader} → Stands t s f b at → Found x m ≡ read_at t at
+pub slot_stops : {t : List ℕ} {s : Standing} {f : Functions} {b : Bodies} {at : ℕ} {x : Record} {m : Reader} → Stands t s f b at → Some (x, m) ≡ read_at t at
     → (r : Checked) → fault (scan_of s f b) x ≡ 29 → judge 29 at r ≡ scan start 0 (records_of t)
 slot_stops here e r is = stops here e 29 r is (λ k. omega arith)

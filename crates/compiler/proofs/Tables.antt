@@ -8,7 +8,7 @@ use lib.ListN.{length, replicate, set as keep}
 use Rattle.word.specs.Reader.{read_at}
 use Rattle.word.specs.declared.Record.{Record}
 use Rattle.word.specs.declared.reader.Reader.{Reader}
-use Rattle.word.specs.declared.reader.Read.TheVariants.{Found, End}
+use Rattle.std.specs.Prelude.{Some, None}
 use Rattle.emitting.specs.Emitting.{sheet, place}
 use Rattle.emitting.specs.Walking.{Desk, desk, times}
 use Rattle.compiler.specs.Writing.{Rolls, rolls, copy_by, copy, body_of, enter_f, walk_f, walk_fs, blank, enter_p, walk_p, answered, fitting, unless_cost, known, write_out}
@@ -21,20 +21,20 @@ use Rattle.translation.specs.Compile.{announced}
 
 -- ---- a whole table
 module _ (t : List ℕ) where
-  pub copy_end : (z : Desk) → read_at t z.read ≡ End → copy t z ≡ z
+  pub copy_end : (z : Desk) → read_at t z.read ≡ None → copy t z ≡ z
   unfolding copy copy_by
   copy_end z e = ap (copy_by t z) e
 
-  pub copy_found : (z : Desk) (x : Record) (i : Reader) → read_at t z.read ≡ Found x i → copy t z ≡ desk (place x z.sheet) i.at
+  pub copy_found : (z : Desk) (x : Record) (i : Reader) → read_at t z.read ≡ Some (x, i) → copy t z ≡ desk (place x z.sheet) i.at
   unfolding copy copy_by
   copy_found z x i e = ap (copy_by t z) e
 
 module _ (t depths : List ℕ) where
-  pub walk_f_end : (f : ℕ) (z : Rolls) → read_at t z.desk.read ≡ End → walk_f t depths f z ≡ z
+  pub walk_f_end : (f : ℕ) (z : Rolls) → read_at t z.desk.read ≡ None → walk_f t depths f z ≡ z
   unfolding walk_f enter_f
   walk_f_end f z e = ap (enter_f t depths f z) e
 
-  pub walk_f_found : (f : ℕ) (z : Rolls) (x : Record) (i : Reader) → read_at t z.desk.read ≡ Found x i
+  pub walk_f_found : (f : ℕ) (z : Rolls) (x : Record) (i : Reader) → read_at t z.desk.read ≡ Some (x, i)
       → walk_f t depths f z ≡ rolls (body_of t depths f (min x.q 32) x i z) (keep z.params f x.p)
   unfolding walk_f enter_f
   walk_f_found f z x i e = ap (enter_f t depths f z) e
@@ -53,11 +53,11 @@ module _ (t depths : List ℕ) where
         let e : n - f ≡ 0 = omega arith in
         ap (λ (k : ℕ). walk_fs t depths k f z) e
 
-  pub walk_p_end : (out : List ℕ) → read_at t 0 ≡ End → walk_p t depths out ≡ out
+  pub walk_p_end : (out : List ℕ) → read_at t 0 ≡ None → walk_p t depths out ≡ out
   unfolding walk_p enter_p
   walk_p_end out e = ap (enter_p t depths out) e
 
-  pub walk_p_found : (out : List ℕ) (x : Record) (i : Reader) → read_at t 0 ≡ Found x i
+  pub walk_p_found : (out : List ℕ) (x : Record) (i : Reader) → read_at t 0 ≡ Some (x, i)
       → walk_p t depths out ≡ walk_fs t depths x.p 0 (rolls (times x.q (copy t) (copy t (desk (blank out) 0))) (replicate 16 0))
   unfolding walk_p enter_p
   walk_p_found out x i e = ap (enter_p t depths out) e

@@ -5,8 +5,8 @@ use Rattle.word.specs.Value.{TRUE, FALSE}
 use Rattle.word.specs.Reader.{read_at}
 use Rattle.word.specs.declared.Record.{Record}
 use Rattle.word.specs.declared.reader.Reader.{Reader}
-use Rattle.word.specs.declared.reader.Read.{Read}
-use Rattle.word.specs.declared.reader.Read.TheVariants.{Found, End}
+use Rattle.word.specs.Reader.{Read}
+use Rattle.std.specs.Prelude.{Some, None}
 use Rattle.costing.specs.Totals.{Outcome as Known, counted}
 use Rattle.tape.specs.Instruction.{cfunc, lit, def, ret}
 use Rattle.tape.specs.Held.{hold}
@@ -39,8 +39,8 @@ heads p n depth s = puts (def (n + 1)) (puts (lit TRUE) (puts (def n) (puts (lit
 module _ (t : List ℕ) where
   -- PROGRAM and ARRAY records are copied
   unfoldable pub copy_by : Desk → Read → Desk
-  copy_by z (Found x i) = desk (place x z.sheet) i.at
-  copy_by z End = z
+  copy_by z (Some (x, i)) = desk (place x z.sheet) i.at
+  copy_by z None = z
 
   unfoldable pub copy : Desk → Desk
   copy z = copy_by z (read_at t z.read)
@@ -52,8 +52,8 @@ module _ (t depths : List ℕ) where
   body_of f n x i z = on (puts (ret n)) (walk_s z.params t (layout n) 16 0 (desk (heads x.p n (get_or depths f 0) z.desk.sheet) i.at))
 
   unfoldable pub enter_f : ℕ → Rolls → Read → Rolls
-  enter_f f z (Found x i) = rolls (body_of f (min x.q 32) x i z) (keep z.params f x.p)
-  enter_f f z End = z
+  enter_f f z (Some (x, i)) = rolls (body_of f (min x.q 32) x i z) (keep z.params f x.p)
+  enter_f f z None = z
 
   unfoldable pub walk_f : ℕ → Rolls → Rolls
   walk_f f z = enter_f f z (read_at t z.desk.read)
@@ -65,8 +65,8 @@ module _ (t depths : List ℕ) where
 
   -- ---- the whole table
   unfoldable pub enter_p : List ℕ → Read → List ℕ
-  enter_p out (Found x i) = walk_fs x.p 0 (rolls (times x.q (copy t) (copy t (desk (blank out) 0))) (replicate 16 0))
-  enter_p out End = out
+  enter_p out (Some (x, i)) = walk_fs x.p 0 (rolls (times x.q (copy t) (copy t (desk (blank out) 0))) (replicate 16 0))
+  enter_p out None = out
 
   unfoldable pub walk_p : List ℕ → List ℕ
   walk_p out = enter_p out (read_at t 0)

@@ -10,8 +10,8 @@ use lib.ListN.{length, set as keep, length-set}
 use Rattle.word.specs.Reader.{read_at}
 use Rattle.word.specs.declared.Record.{Record}
 use Rattle.word.specs.declared.reader.Reader.{Reader}
-use Rattle.word.specs.declared.reader.Read.{Read}
-use Rattle.word.specs.declared.reader.Read.TheVariants.{Found, End}
+use Rattle.word.specs.Reader.{Read}
+use Rattle.std.specs.Prelude.{Some, None}
 use Rattle.script.specs.Table.{read_s}
 use Rattle.script.proofs.Leading.{from}
 use Rattle.scoping.specs.Passes.{heading, noted, arity_of}
@@ -75,22 +75,22 @@ module _ (params κ t : List ℕ) where
       let e : left ≡ suc (left - 1) = omega arith in
       ap (λ (n : ℕ). statement params κ t n d c) e
 
-  pub statement_end : (left d : ℕ) (c : Count) → 0 < left → read_at t c.at.at ≡ End → statement params κ t left d c ≡ c
+  pub statement_end : (left d : ℕ) (c : Count) → 0 < left → read_at t c.at.at ≡ None → statement params κ t left d c ≡ c
   unfolding enter
   statement_end left d c h e = statement_on left d c h ∙ ap (enter params κ t (statement params κ t (left - 1)) d c) e
 
-  pub statement_found : (left d : ℕ) (c : Count) (x : Record) (i : Reader) → 0 < left → read_at t c.at.at ≡ Found x i
+  pub statement_found : (left d : ℕ) (c : Count) (x : Record) (i : Reader) → 0 < left → read_at t c.at.at ≡ Some (x, i)
       → statement params κ t left d c ≡ head params κ t (statement params κ t (left - 1)) d (moved i.at c) (read_s x)
   unfolding enter
   statement_found left d c x i h e = statement_on left d c h ∙ ap (enter params κ t (statement params κ t (left - 1)) d c) e
 
 -- ---- functions
 module _ (t : List ℕ) where
-  pub function_end : (f : ℕ) (z : Totals) → read_at t z.count.at.at ≡ End → function_at t f z ≡ z
+  pub function_end : (f : ℕ) (z : Totals) → read_at t z.count.at.at ≡ None → function_at t f z ≡ z
   unfolding function_at function_by
   function_end f z e = ap (function_by t f z) e
 
-  pub function_found : (f : ℕ) (z : Totals) (x : Record) (i : Reader) → read_at t z.count.at.at ≡ Found x i
+  pub function_found : (f : ℕ) (z : Totals) (x : Record) (i : Reader) → read_at t z.count.at.at ≡ Some (x, i)
       → function_at t f z ≡ keeping t f x (body_at t i.at z) z
   unfolding function_at function_by
   function_found f z x i e = ap (function_by t f z) e
@@ -129,8 +129,8 @@ noted_length row f n = by (ltb f 16)
 module _ (t : List ℕ) where
   function_length : (f : ℕ) (z : Totals) (r : Read) → length (function_by t f z r).depths ≡ length z.depths
   unfolding function_by keeping
-  function_length f z (Found x i) = noted_length z.depths f _
-  function_length f z End = refl
+  function_length f z (Some (x, i)) = noted_length z.depths f _
+  function_length f z None = refl
 
   over_length : (b : Bool) (at n : ℕ) (y : Totals) (rest : Outcome) → length y.depths ≡ n → length rest.depths ≡ n → length (or_over b at y rest).depths ≡ n
   unfolding or_over

@@ -4,8 +4,8 @@ use Rattle.std.specs.Prelude.{ℕ, zero, suc, ◌+◌, ◌-◌, ◌*◌, max, co
 use Rattle.word.specs.Records.{records_of}
 use Rattle.word.specs.Reader.{read_at}
 use Rattle.word.specs.declared.Record.{Record}
-use Rattle.word.specs.declared.reader.Read.{Read}
-use Rattle.word.specs.declared.reader.Read.TheVariants.{Found, End}
+use Rattle.word.specs.Reader.{Read}
+use Rattle.std.specs.Prelude.{Some, None}
 use Rattle.script.specs.Table.{HeadS, SKIP, SEQ, DEF, SET, PUT, FOR, IF, RETURN, read_s}
 use Rattle.scoping.specs.Passes.{params_of, arity_of}
 use Rattle.tape.specs.Held.{hold}
@@ -86,8 +86,8 @@ module _ (params κ t : List ℕ) where
   head f d c RETURN = masked d (expression params κ t c)
 
   unfoldable pub enter : (ℕ → Count → Count) → ℕ → Count → Read → Count
-  enter f d c (Found x i) = head f d (moved i.at c) (read_s x)
-  enter f d c End = c
+  enter f d c (Some (x, i)) = head f d (moved i.at c) (read_s x)
+  enter f d c None = c
 
   -- with d IFs round it, to the depth that is left
   unfoldable pub statement : ℕ → ℕ → Count → Count

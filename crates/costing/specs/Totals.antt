@@ -2,8 +2,8 @@
 use Rattle.std.specs.Prelude.{ℕ, zero, suc, ◌+◌, Bool, true, false, List, leb, replicate}
 use Rattle.word.specs.Reader.{read_at}
 use Rattle.word.specs.declared.Record.{Record}
-use Rattle.word.specs.declared.reader.Read.{Read}
-use Rattle.word.specs.declared.reader.Read.TheVariants.{Found, End}
+use Rattle.word.specs.Reader.{Read}
+use Rattle.std.specs.Prelude.{Some, None}
 use Rattle.script.specs.Stage.{First}
 use Rattle.scoping.specs.Passes.{heading, noted}
 use Rattle.tape.specs.Steps.{most}
@@ -33,8 +33,8 @@ module _ (t : List ℕ) where
   keeping f x b z = totals b (noted z.params f x.p) (noted z.steps f (hold b.steps)) (noted z.depths f (hold b.deepest))
 
   unfoldable pub function_by : ℕ → Totals → Read → Totals
-  function_by f z (Found x i) = keeping f x (body_at i.at z) z
-  function_by f z End = z
+  function_by f z (Some (x, i)) = keeping f x (body_at i.at z) z
+  function_by f z None = z
 
   unfoldable pub function_at : ℕ → Totals → Totals
   function_at f z = function_by f z (read_at t z.count.at.at)

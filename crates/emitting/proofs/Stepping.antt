@@ -6,7 +6,7 @@ use native.Mathlib.Omega.{arith}
 use Rattle.word.specs.Reader.{read_at}
 use Rattle.word.specs.declared.Record.{Record}
 use Rattle.word.specs.declared.reader.Reader.{Reader}
-use Rattle.word.specs.declared.reader.Read.TheVariants.{Found, End}
+use Rattle.std.specs.Prelude.{Some, None}
 use Rattle.script.specs.Table.{read_e, read_s}
 use Rattle.translation.specs.Translate.{Layout}
 use Rattle.emitting.specs.Walking.{Desk, desk, on, times, arity, own, enter_e, walk_e, head_s, enter_s, walk_s}
@@ -37,11 +37,11 @@ module _ (params t : List ℕ) where
       let e : left ≡ suc (left - 1) = omega arith in
       ap (λ (n : ℕ). walk_e params t n z) e
 
-  pub walk_e_end : (left : ℕ) (z : Desk) → 0 < left → read_at t z.read ≡ End → walk_e params t left z ≡ z
+  pub walk_e_end : (left : ℕ) (z : Desk) → 0 < left → read_at t z.read ≡ None → walk_e params t left z ≡ z
   unfolding enter_e
   walk_e_end left z h e = walk_e_on left z h ∙ ap (enter_e params t (walk_e params t (left - 1)) z) e
 
-  pub walk_e_found : (left : ℕ) (z : Desk) (x : Record) (i : Reader) → 0 < left → read_at t z.read ≡ Found x i → walk_e params t left z
+  pub walk_e_found : (left : ℕ) (z : Desk) (x : Record) (i : Reader) → 0 < left → read_at t z.read ≡ Some (x, i) → walk_e params t left z
       ≡ on (own (read_e x)) (times (arity params (read_e x)) (walk_e params t (left - 1)) (desk z.sheet i.at))
   unfolding enter_e
   walk_e_found left z x i h e = walk_e_on left z h ∙ ap (enter_e params t (walk_e params t (left - 1)) z) e
@@ -58,11 +58,11 @@ module _ (params t : List ℕ) where
         let e : left ≡ suc (left - 1) = omega arith in
         ap (λ (n : ℕ). walk_s params t l n d z) e
 
-    pub walk_s_end : (left d : ℕ) (z : Desk) → 0 < left → read_at t z.read ≡ End → walk_s params t l left d z ≡ z
+    pub walk_s_end : (left d : ℕ) (z : Desk) → 0 < left → read_at t z.read ≡ None → walk_s params t l left d z ≡ z
     unfolding enter_s
     walk_s_end left d z h e = walk_s_on left d z h ∙ ap (enter_s params t l (walk_s params t l (left - 1)) d z) e
 
-    pub walk_s_found : (left d : ℕ) (z : Desk) (x : Record) (i : Reader) → 0 < left → read_at t z.read ≡ Found x i
+    pub walk_s_found : (left d : ℕ) (z : Desk) (x : Record) (i : Reader) → 0 < left → read_at t z.read ≡ Some (x, i)
         → walk_s params t l left d z ≡ head_s params t l (walk_s params t l (left - 1)) d (desk z.sheet i.at) (read_s x)
     unfolding enter_s
     walk_s_found left d z x i h e = walk_s_on left d z h ∙ ap (enter_s params t l (walk_s params t l (left - 1)) d z) e

@@ -3,8 +3,8 @@
 use Rattle.std.specs.Prelude.{ℕ, zero, suc, cond, List, get_or, eqb}
 use Rattle.word.specs.Value.{TRUE, FALSE}
 use Rattle.word.specs.Reader.{read_at}
-use Rattle.word.specs.declared.reader.Read.{Read}
-use Rattle.word.specs.declared.reader.Read.TheVariants.{Found, End}
+use Rattle.word.specs.Reader.{Read}
+use Rattle.std.specs.Prelude.{Some, None}
 use Rattle.script.specs.Table.{HeadE, NUM, TRUE as YES, FALSE as NO, VAR, GET, LNOT, BNOT, BIN, CALL, HeadS, SKIP, SEQ, DEF, SET, PUT, FOR, IF, RETURN, read_e, read_s}
 use Rattle.tape.specs.Instruction.{lit, var, get, not, bin, call, def, for, end}
 use Rattle.translation.specs.Translate.{Layout}
@@ -64,8 +64,8 @@ own (CALL f) s = puts (call f) s
 
 module _ (params t : List ℕ) where
   unfoldable pub enter_e : (Desk → Desk) → Desk → Read → Desk
-  enter_e f z (Found x i) = on (own (read_e x)) (times (arity params (read_e x)) f (desk z.sheet i.at))
-  enter_e f z End = z
+  enter_e f z (Some (x, i)) = on (own (read_e x)) (times (arity params (read_e x)) f (desk z.sheet i.at))
+  enter_e f z None = z
 
   -- `left` is the depth that is left, this one counted
   unfoldable pub walk_e : ℕ → Desk → Desk
@@ -95,8 +95,8 @@ module _ (params t : List ℕ) where
     head_s f d z RETURN = on (gives l d) (walk_e 16 z)
 
     unfoldable pub enter_s : (ℕ → Desk → Desk) → ℕ → Desk → Read → Desk
-    enter_s f d z (Found x i) = head_s f d (desk z.sheet i.at) (read_s x)
-    enter_s f d z End = z
+    enter_s f d z (Some (x, i)) = head_s f d (desk z.sheet i.at) (read_s x)
+    enter_s f d z None = z
 
     -- with d IFs round it
     unfoldable pub walk_s : ℕ → ℕ → Desk → Desk

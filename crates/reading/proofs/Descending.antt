@@ -12,7 +12,7 @@ use Rattle.word.specs.Records.{records}
 use Rattle.word.specs.Reader.{read_at}
 use Rattle.word.specs.declared.Record.{Record}
 use Rattle.word.specs.declared.reader.Reader.{Reader}
-use Rattle.word.specs.declared.reader.Read.TheVariants.{Found, End}
+use Rattle.std.specs.Prelude.{Some, None}
 use Rattle.script.specs.Tree.{Expr, more, call, Stmt, seq, next}
 use Rattle.script.specs.Table.{HeadE, NUM, TRUE, FALSE, VAR, GET, LNOT, BNOT, BIN, CALL, HeadS, SKIP, SEQ, DEF, SET, PUT, FOR, IF, RETURN, read_e, read_s, expression, statement, fault, lead}
 use Rattle.script.specs.Parse.{Parsed, parsed, refused, and_then, parts, build_e, enter_e, too_deep, parse_e, whole, Nest, nests, inside, sequence, build_s, enter_if, enter_s, parse_s}
@@ -78,10 +78,10 @@ module _ (e : Env) (t : List ℕ) (at : ℕ) where
   fault_walk zero number place h = rw h refl
   fault_walk (suc left) number place h = rw h refl
 
-  pub expression_ends : (left : ℕ) → read_at t at ≡ End → walk_of (parse_e left e t at) ≡ Stop 3 (records t)
+  pub expression_ends : (left : ℕ) → read_at t at ≡ None → walk_of (parse_e left e t at) ≡ Stop 3 (records t)
   expression_ends left h = fault_walk left 3 (records t) (lead_end expression e t at h)
 
-  module _ (x : Record) (m : Reader) (found : read_at t at ≡ Found x m) where
+  module _ (x : Record) (m : Reader) (found : read_at t at ≡ Some (x, m)) where
     pub expression_faults : (left n : ℕ) → n ≡ record_fault expression e x → (n ≡ 0 → ⊥) → walk_of (parse_e left e t at) ≡ Stop n at
     expression_faults left n is some = fault_walk left n at (lead_fault expression e t at x m n found is some)
 
@@ -156,10 +156,10 @@ module _ (n : Nest) (e : Env) (t : List ℕ) (at : ℕ) where
   fault_walk_s zero number place h = rw h refl
   fault_walk_s (suc left) number place h = rw h refl
 
-  pub statement_ends : (left : ℕ) → read_at t at ≡ End → walk_of (parse_s left n e t at) ≡ Stop 3 (records t)
+  pub statement_ends : (left : ℕ) → read_at t at ≡ None → walk_of (parse_s left n e t at) ≡ Stop 3 (records t)
   statement_ends left h = fault_walk_s left 3 (records t) (lead_end statement e t at h)
 
-  module _ (x : Record) (m : Reader) (found : read_at t at ≡ Found x m) where
+  module _ (x : Record) (m : Reader) (found : read_at t at ≡ Some (x, m)) where
     pub statement_faults : (left k : ℕ) → k ≡ record_fault statement e x → (k ≡ 0 → ⊥) → walk_of (parse_s left n e t at) ≡ Stop k at
     statement_faults left k is some = fault_walk_s left k at (lead_fault statement e t at x m k found is some)
 

@@ -12,7 +12,7 @@ use Rattle.word.specs.Records.{records, sized}
 use Rattle.word.specs.Reader.{read_at}
 use Rattle.word.specs.declared.Record.{Record}
 use Rattle.word.specs.declared.reader.Reader.{Reader}
-use Rattle.word.specs.declared.reader.Read.TheVariants.{Found, End}
+use Rattle.std.specs.Prelude.{Some, None}
 use Rattle.script.specs.Tree.{Program}
 use Rattle.script.specs.Table.{program, array, function}
 use Rattle.script.specs.Parse.{Parsed, parsed, refused, parse_s, outermost, entered, passed, func_of, headed, parse_funcs, nowhere, parse_arrays, parse_program, wholly, read_table}
@@ -26,11 +26,11 @@ use Rattle.reading.proofs.Descending.{step, then_walk, same_walk}
 
 -- ---- the arrays
 module _ (t : List ℕ) (at n m : ℕ) (one : n ≡ suc m) where
-  pub array_ends : read_at t at ≡ End → walk_of (parse_arrays n t at) ≡ Stop 3 (records t)
+  pub array_ends : read_at t at ≡ None → walk_of (parse_arrays n t at) ≡ Stop 3 (records t)
   unfolding parse_arrays headed walk_of
   array_ends h = rw (one, lead_end array (nowhere 0) t at h) refl
 
-  module _ (x : Record) (r : Reader) (found : read_at t at ≡ Found x r) where
+  module _ (x : Record) (r : Reader) (found : read_at t at ≡ Some (x, r)) where
     pub array_faults : (k : ℕ) → k ≡ record_fault array (nowhere 0) x → (k ≡ 0 → ⊥) → walk_of (parse_arrays n t at) ≡ Stop k at
     unfolding parse_arrays headed walk_of
     array_faults k is some = rw (one, lead_fault array (nowhere 0) t at x r k found is some) refl
@@ -49,11 +49,11 @@ abbrev pub before : ℕ → ℕ → List ℕ → Env
 before arrays func params = record { slots = 0; arrays = arrays; func = func; params = params }
 
 module _ (t : List ℕ) (e : Env) (at n m : ℕ) (one : n ≡ suc m) where
-  pub function_ends : read_at t at ≡ End → walk_of (parse_funcs n e t at) ≡ Stop 3 (records t)
+  pub function_ends : read_at t at ≡ None → walk_of (parse_funcs n e t at) ≡ Stop 3 (records t)
   unfolding parse_funcs headed walk_of
   function_ends h = rw (one, lead_end function e t at h) refl
 
-  module _ (x : Record) (r : Reader) (found : read_at t at ≡ Found x r) where
+  module _ (x : Record) (r : Reader) (found : read_at t at ≡ Some (x, r)) where
     pub function_faults : (k : ℕ) → k ≡ record_fault function e x → (k ≡ 0 → ⊥) → walk_of (parse_funcs n e t at) ≡ Stop k at
     unfolding parse_funcs headed walk_of
     function_faults k is some = rw (one, lead_fault function e t at x r k found is some) refl
@@ -74,11 +74,11 @@ functions_end t e at n z = rw z refl
 
 -- ---- the program
 module _ (t : List ℕ) where
-  pub program_ends : read_at t 0 ≡ End → walk_of (parse_program t) ≡ Stop 3 (records t)
+  pub program_ends : read_at t 0 ≡ None → walk_of (parse_program t) ≡ Stop 3 (records t)
   unfolding parse_program headed walk_of
   program_ends h = rw (lead_end program (nowhere 0) t 0 h) refl
 
-  module _ (x : Record) (r : Reader) (found : read_at t 0 ≡ Found x r) where
+  module _ (x : Record) (r : Reader) (found : read_at t 0 ≡ Some (x, r)) where
     pub program_faults : (k : ℕ) → k ≡ record_fault program (nowhere 0) x → (k ≡ 0 → ⊥) → walk_of (parse_program t) ≡ Stop k 0
     unfolding parse_program headed walk_of
     program_faults k is some = rw (lead_fault program (nowhere 0) t 0 x r k found is some) refl

@@ -10,7 +10,7 @@ use Rattle.word.specs.Records.{records, same}
 use Rattle.word.specs.Reader.{read_at}
 use Rattle.word.specs.declared.Record.{Record}
 use Rattle.word.specs.declared.reader.Reader.{Reader}
-use Rattle.word.specs.declared.reader.Read.TheVariants.{Found, End}
+use Rattle.std.specs.Prelude.{Some, None}
 use Rattle.word.proofs.Walk.{read_found, read_end}
 use Rattle.script.specs.Table.{Class, read_e, range_e, expression, Lead, node, fault, lead_by, lead}
 use Rattle.reading.specs.Structure.{fields_fault, record_fault}
@@ -42,30 +42,30 @@ module _ {A : Type 0} (c : Class A) (e : Env) where
   tests_clear x h = clear (c.due x.kind) (same x (c.write (c.read x))) (c.in_range e (c.read x)) h
 
   module _ (t : List ℕ) (at : ℕ) where
-    pub lead_end : read_at t at ≡ End → lead c e t at ≡ fault 3 (records t)
+    pub lead_end : read_at t at ≡ None → lead c e t at ≡ fault 3 (records t)
     unfolding lead
     lead_end h = rw (le-ltb at (records t) (read_end t at h)) refl
 
-    found_by : (x : Record) (m : Reader) → read_at t at ≡ Found x m → lead c e t at ≡ lead_by c e x at
+    found_by : (x : Record) (m : Reader) → read_at t at ≡ Some (x, m) → lead c e t at ≡ lead_by c e x at
     unfolding lead
     found_by x m h =
         let (there, is, moved) = read_found t at x m h in
         rw (lt-ltb at (records t) there, is) refl
 
-    pub lead_fault : (x : Record) (m : Reader) (n : ℕ) → read_at t at ≡ Found x m → n ≡ record_fault c e x → (n ≡ 0 → ⊥) → lead c e t at ≡ fault n at
+    pub lead_fault : (x : Record) (m : Reader) (n : ℕ) → read_at t at ≡ Some (x, m) → n ≡ record_fault c e x → (n ≡ 0 → ⊥) → lead c e t at ≡ fault n at
     unfolding record_fault fields_fault lead_by
     lead_fault x m n h is some =
         found_by x m h
         ∙ failed (c.due x.kind) (same x (c.write (c.read x))) (c.in_range e (c.read x)) (c.read x) at (λ z. some (is ∙ z))
         ∙ ap (λ (k : ℕ). fault k at) (sym is)
 
-    pub lead_node : (x : Record) (m : Reader) → read_at t at ≡ Found x m → record_fault c e x ≡ 0 → lead c e t at ≡ node (c.read x)
+    pub lead_node : (x : Record) (m : Reader) → read_at t at ≡ Some (x, m) → record_fault c e x ≡ 0 → lead c e t at ≡ node (c.read x)
     unfolding lead_by
     lead_node x m h is =
         let (due, blank, range) = tests_clear x is in
         found_by x m h ∙ rw (due, blank, range) refl
 
-pub read_on : (t : List ℕ) (at : ℕ) (x : Record) (m : Reader) → read_at t at ≡ Found x m → m.at ≡ at + 1
+pub read_on : (t : List ℕ) (at : ℕ) (x : Record) (m : Reader) → read_at t at ≡ Some (x, m) → m.at ≡ at + 1
 read_on t at x m h = (read_found t at x m h).2
 
 -- an expression's record without a fault: its kind, and a call's function is a lower one

@@ -9,7 +9,7 @@ use Rattle.word.specs.Records.{records, records_of}
 use Rattle.word.specs.Reader.{read_at, found_if}
 use Rattle.word.specs.declared.Record.{Record}
 use Rattle.word.specs.declared.reader.Reader.{Reader}
-use Rattle.word.specs.declared.reader.Read.TheVariants.{Found, End}
+use Rattle.std.specs.Prelude.{Some, None}
 use Rattle.word.proofs.Records.{records_words}
 use Rattle.word.proofs.Memory.{Words}
 use Rattle.word.proofs.Walk.{walk_on, walk_end, read_found, read_end}
@@ -22,21 +22,21 @@ use Rattle.script.proofs.Leading.{from, first_from}
 use Rattle.script.proofs.Exactly.{written_read}
 
 -- ---- a record that is found, with the cursor past it; and the end
-pub found_on : (t : List ℕ) (at : ℕ) (x : Record) (m : Reader) → read_at t at ≡ Found x m → (at < records t) × (from t at ≡ x ∷ from t (at + 1)) × (m.at ≡ at + 1)
+pub found_on : (t : List ℕ) (at : ℕ) (x : Record) (m : Reader) → read_at t at ≡ Some (x, m) → (at < records t) × (from t at ≡ x ∷ from t (at + 1)) × (m.at ≡ at + 1)
 found_on t at x m e =
     let (there, is, moved) = read_found t at x m e in
     (there, walk_on t at there ∙ ap (◌∷ from t (at + 1)) (sym is), moved)
 
-pub found_none : (t : List ℕ) (at : ℕ) → read_at t at ≡ End → from t at ≡ []
+pub found_none : (t : List ℕ) (at : ℕ) → read_at t at ≡ None → from t at ≡ []
 found_none t at e = walk_end t at (read_end t at e)
 
 -- ---- a record that stands there is found
 pub finds : (t : List ℕ) (at : ℕ) {x : Record} {rest : List Record} → from t at ≡ x ∷ rest
-    → (read_at t at ≡ Found x (record { at = at + 1 })) × (from t (at + 1) ≡ rest)
+    → (read_at t at ≡ Some (x, (record { at = at + 1 }))) × (from t (at + 1) ≡ rest)
 unfolding read_at found_if
 finds t at {x} {rest} e =
     let (there, is, on) = first_from t at e in
-    (rw (lt-ltb at (records t) there) (ap (λ (y : Record). Found y (record { at = at + 1 })) is), on)
+    (rw (lt-ltb at (records t) there) (ap (λ (y : Record). Some (y, (record { at = at + 1 }))) is), on)
 
 -- ---- the table of a tree
 pub lists : (t : List ℕ) (p : Program) (i : ℕ) → Words t → read_table t ≡ parsed p i → (records_of t ≡ listing p) × Within p

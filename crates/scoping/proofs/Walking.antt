@@ -6,7 +6,7 @@ use mathlib.Core.List.{List}
 use Rattle.word.specs.Reader.{read_at}
 use Rattle.word.specs.declared.Record.{Record}
 use Rattle.word.specs.declared.reader.Reader.{Reader}
-use Rattle.word.specs.declared.reader.Read.TheVariants.{Found, End}
+use Rattle.std.specs.Prelude.{Some, None}
 use Rattle.script.specs.Stage.{clean, Walked, stops, onward}
 use Rattle.scoping.specs.Passes.{At, come, statements_of, Turn, nested, enter_by, walk, Over, then_first, func_at, funcs_from}
 
@@ -15,12 +15,12 @@ module _ {A : Type 0} (T : Turn A) (t : List ℕ) (at : ℕ) (a : A) where
   unfolding walk
   walk_deep left e = rw e refl
 
-  pub walk_end : (left : ℕ) → read_at t at ≡ End → walk T t left at a ≡ come at a
+  pub walk_end : (left : ℕ) → read_at t at ≡ None → walk T t left at a ≡ come at a
   unfolding walk enter_by
   walk_end zero e = refl
   walk_end (suc left) e = rw e refl
 
-  pub walk_found : (left : ℕ) (x : Record) (m : Reader) → 0 < left → read_at t at ≡ Found x m
+  pub walk_found : (left : ℕ) (x : Record) (m : Reader) → 0 < left → read_at t at ≡ Some (x, m)
       → walk T t left at a ≡ nested (walk T t (left - 1)) (T.leave x.kind a) (statements_of x) (T.enter a at x)
   unfolding walk enter_by
   walk_found zero x m some e = absurd (omega arith)
@@ -47,12 +47,12 @@ module _ {M : Type 0} (O : Over M) (t : List ℕ) (at : ℕ) (m : M) where
   unfolding funcs_from
   funcs_over n e = rw e refl
 
-  pub funcs_end : (n : ℕ) → read_at t at ≡ End → funcs_from O t n m at ≡ clean
+  pub funcs_end : (n : ℕ) → read_at t at ≡ None → funcs_from O t n m at ≡ clean
   unfolding funcs_from func_at
   funcs_end zero e = refl
   funcs_end (suc n) e = rw e refl
 
-  pub funcs_found : (n : ℕ) (x : Record) (on : Reader) → 0 < n → read_at t at ≡ Found x on
+  pub funcs_found : (n : ℕ) (x : Record) (on : Reader) → 0 < n → read_at t at ≡ Some (x, on)
       → funcs_from O t n m at ≡ then_first (O.body m x on.at) (funcs_from O t (n - 1) (O.note m x))
   unfolding funcs_from func_at
   funcs_found zero x on some e = absurd (omega arith)

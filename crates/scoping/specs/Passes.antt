@@ -4,8 +4,8 @@
 use Rattle.std.specs.Prelude.{ℕ, zero, suc, ◌+◌, cond, List, ltb, eqb, get_or, set}
 use Rattle.word.specs.Reader.{read_at}
 use Rattle.word.specs.declared.Record.{Record}
-use Rattle.word.specs.declared.reader.Read.{Read}
-use Rattle.word.specs.declared.reader.Read.TheVariants.{Found, End}
+use Rattle.word.specs.Reader.{Read}
+use Rattle.std.specs.Prelude.{Some, None}
 use Rattle.script.specs.Stage.{clean, fault, Walked, goes, stops, onward}
 use Rattle.script.specs.Stage.{First}
 use Rattle.scoping.specs.declared.passes.Heading.{Heading}
@@ -20,8 +20,8 @@ come at a = goes (record { at = at; state = a })
 
 -- ---- PROGRAM
 unfoldable pub heading_of : Read → Heading
-heading_of (Found x next) = record { functions = x.p; first = record { at = 1 + x.q } }
-heading_of End = record { functions = 0; first = record { at = 0 } }
+heading_of (Some (x, next)) = record { functions = x.p; first = record { at = 1 + x.q } }
+heading_of None = record { functions = 0; first = record { at = 0 } }
 
 unfoldable pub heading : List ℕ → Heading
 heading t = heading_of (read_at t 0)
@@ -70,8 +70,8 @@ nested f leave zero w = w
 nested f leave (suc n) w = nested f leave n (onward w (λ b. leave (f b.at b.state)))
 
 unfoldable pub enter_by : {A : Type 0} → Turn A → (ℕ → A → Walked (At A)) → ℕ → A → Read → Walked (At A)
-enter_by T f at a (Found x next) = nested f (T.leave x.kind a) (statements_of x) (T.enter a at x)
-enter_by T f at a End = come at a
+enter_by T f at a (Some (x, next)) = nested f (T.leave x.kind a) (statements_of x) (T.enter a at x)
+enter_by T f at a None = come at a
 
 -- the statement at a record, to the depth that is left
 unfoldable pub walk : {A : Type 0} → Turn A → List ℕ → ℕ → ℕ → A → Walked (At A)
@@ -89,8 +89,8 @@ then_first (goes at) next = next at
 then_first (stops number place) next = fault number place
 
 unfoldable pub func_at : {M : Type 0} → Over M → (M → ℕ → First) → M → Read → First
-func_at O next m (Found x on) = then_first (O.body m x on.at) (next (O.note m x))
-func_at O next m End = clean
+func_at O next m (Some (x, on)) = then_first (O.body m x on.at) (next (O.note m x))
+func_at O next m None = clean
 
 -- so many functions
 unfoldable pub funcs_from : {M : Type 0} → Over M → List ℕ → ℕ → M → ℕ → First

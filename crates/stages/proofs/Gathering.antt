@@ -6,7 +6,7 @@ use mathlib.Core.List.{List}
 use Rattle.word.specs.Reader.{read_at}
 use Rattle.word.specs.declared.Record.{Record}
 use Rattle.word.specs.declared.reader.Reader.{Reader}
-use Rattle.word.specs.declared.reader.Read.TheVariants.{Found, End}
+use Rattle.std.specs.Prelude.{Some, None}
 use Rattle.scoping.specs.Passes.{arity_of}
 use Rattle.stages.specs.Typed.{no_parts, with_part, gather, judged, untyped, typed_by, typed_at}
 use Rattle.stages.specs.declared.types.Typed.{Typed}
@@ -29,12 +29,12 @@ module _ (t params : List ℕ) (slots at : ℕ) where
   unfolding typed_at
   typed_deep left e = rw e refl
 
-  pub typed_end : (left : ℕ) → read_at t at ≡ End → typed_at t params slots left at ≡ untyped at
+  pub typed_end : (left : ℕ) → read_at t at ≡ None → typed_at t params slots left at ≡ untyped at
   unfolding typed_at typed_by
   typed_end zero e = refl
   typed_end (suc left) e = rw e refl
 
-  pub typed_found : (left : ℕ) (x : Record) (m : Reader) → 0 < left → read_at t at ≡ Found x m
+  pub typed_found : (left : ℕ) (x : Record) (m : Reader) → 0 < left → read_at t at ≡ Some (x, m)
       → typed_at t params slots left at ≡ judged slots x at (gather (typed_at t params slots (left - 1)) (arity_of params x) (no_parts m.at))
   unfolding typed_at typed_by
   typed_found zero x m some e = absurd (omega arith)

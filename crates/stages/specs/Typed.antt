@@ -5,8 +5,8 @@ use Rattle.word.specs.Reader.{read_at}
 use Rattle.word.specs.Types.{Ty, number, boolean}
 use Rattle.word.specs.Sets.{has, put}
 use Rattle.word.specs.declared.Record.{Record}
-use Rattle.word.specs.declared.reader.Read.{Read}
-use Rattle.word.specs.declared.reader.Read.TheVariants.{Found, End}
+use Rattle.word.specs.Reader.{Read}
+use Rattle.std.specs.Prelude.{Some, None}
 use Rattle.script.specs.Stage.{clean, or_else, Walked, goes, stops, after, onward}
 use Rattle.script.specs.Types.{Types, require}
 use Rattle.scoping.specs.Passes.{At, come, noted, expressions_of, arity_of, Turn, walk, Over, staged}
@@ -82,8 +82,8 @@ unfoldable pub untyped : ℕ → Typed
 untyped at = record { boolean = false; first = clean; next = record { at = at } }
 
 unfoldable pub typed_by : List ℕ → ℕ → (ℕ → Typed) → ℕ → Read → Typed
-typed_by params slots f at (Found x next) = judged slots x at (gather f (arity_of params x) (no_parts next.at))
-typed_by params slots f at End = untyped at
+typed_by params slots f at (Some (x, next)) = judged slots x at (gather f (arity_of params x) (no_parts next.at))
+typed_by params slots f at None = untyped at
 
 -- the expression at a record, to the depth that is left
 unfoldable pub typed_at : List ℕ → List ℕ → ℕ → ℕ → ℕ → Typed

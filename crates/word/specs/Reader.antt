@@ -5,9 +5,12 @@ use Rattle.word.specs.Records.{records, record_at}
 use Rattle.word.specs.declared.Record.{Record}
 use Rattle.word.specs.declared.reader.Reader.{Reader}
 
-unfoldable pub found_if : Bool → List ℕ → ℕ → Option (Record × Reader)
+abbrev pub Read : Type 0
+Read = Option (Record × Reader)
+
+unfoldable pub found_if : Bool → List ℕ → ℕ → Read
 found_if true t at = Some (record_at t at, record { at = at + 1 })
 found_if false t at = None
 
-unfoldable pub read_at : List ℕ → ℕ → Option (Record × Reader)
+unfoldable pub read_at : List ℕ → ℕ → Read
 read_at t at = found_if (nat_lt at (records t)) t at

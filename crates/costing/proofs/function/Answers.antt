@@ -17,12 +17,12 @@ pub returns : goal.returns
 unfolding body_at keeping
 returns c =
     let a = c.args in
-    let x = c.in-Found.x in
-    let i = c.in-Found.next in
+    let x = c.in-Some.x in
+    let i = c.in-Some.next in
     let z = totals a.from a.params.now a.steps.now a.depths.now in
     let s = c.statement-body in
     let body = s.ensures ∙ ap (λ (n : ℕ). counts a.params.now a.steps.now a.table.now 16 0 (count i.at n 3 0)) c.more.ensures in
     let steps = c.note-2.ensures ∙ ap (noted a.steps.now a.f) c.short.ensures in
     let depths = c.note-3.ensures ∙ ap (noted a.depths.now a.f) c.short-2.ensures in
     (λ j. totals s.result (c.note.ensures j) (steps j) (depths j)) ∙ ap (λ (k : Count). keeping a.table.now a.f x k z) body
-    ∙ sym (function_found a.table.now a.f z x i (sym c.in-Found.ensures))
+    ∙ sym (function_found a.table.now a.f z x i (sym c.in-Some.ensures))

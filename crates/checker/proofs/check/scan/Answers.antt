@@ -8,7 +8,7 @@ use Rattle.checker.specs.Standing.{functions, bodies, due_of, rank, shown_by, sc
 use Rattle.checker.proofs.Scanned.{stands_first, stands_on}
 use Rattle.checker.proofs.Ways.{known_room, room_of, body_room, scan_ends, is_there, fault_stops, searched, further, barred, refused, allowed, slot_stops}
 use Rattle.checker.proofs.check.scan.Goals as goal
-use Rattle.checker.proofs.check.scan.Goals.{in-Found+then-number-ne0, in-Found+else-number-ne0+then-bodies-test+then-most-shown, in-Found+else-number-ne0+then-outside, else-bodies-test, then-bodies-test+else-most-shown+then-shown-ne-HIDDEN, in_default, Else-outside}
+use Rattle.checker.proofs.check.scan.Goals.{in-Some+then-number-ne0, in-Some+else-number-ne0+then-bodies-test+then-most-shown, in-Some+else-number-ne0+then-outside, else-bodies-test, then-bodies-test+else-most-shown+then-shown-ne-HIDDEN, in_default, Else-outside}
 
 pub scan-init : goal.scan-init
 scan-init c =
@@ -28,16 +28,16 @@ pub bodies-preserved : goal.bodies-preserved
 bodies-preserved c = (
   omega (arith, c.bodies.invariant.0),
   c.bodies.invariant.1,
-  c.bodies.invariant.2 ∙ further c.scan.s.params (bodies c.scan.slots c.scan.passes c.scan.counts c.scan.defs) c.in-Found.x.p c.bodies.d _ c.bodies-test.true c.shown-in-bodies.ensures c.if-shown-ne-HIDDEN.false,
+  c.bodies.invariant.2 ∙ further c.scan.s.params (bodies c.scan.slots c.scan.passes c.scan.counts c.scan.defs) c.in-Some.x.p c.bodies.d _ c.bodies-test.true c.shown-in-bodies.ensures c.if-shown-ne-HIDDEN.false,
 )
 
 pub visible-requires : goal.visible-requires
 visible-requires c = body_room c.scan.invariant.1 _ _ _ c.searched-d.ensures c.bodies.invariant.0
 
 -- the slot is allowed: the record has no fault
-clear : (c : Else-outside) → fault (scan_of c.scan.s (functions c.scan.params c.scan.steps c.scan.places) (bodies c.scan.slots c.scan.passes c.scan.counts c.scan.defs)) c.in-Found.x ≡ 0
+clear : (c : Else-outside) → fault (scan_of c.scan.s (functions c.scan.params c.scan.steps c.scan.places) (bodies c.scan.slots c.scan.passes c.scan.counts c.scan.defs)) c.in-Some.x ≡ 0
 clear c =
-    let shows : 0 < c.bodies.d → rank (shown_by c.scan.slots c.scan.defs c.bodies.d c.in-Found.x.p) ≡ 0 → ⊥ =
+    let shows : 0 < c.bodies.d → rank (shown_by c.scan.slots c.scan.defs c.bodies.d c.in-Some.x.p) ≡ 0 → ⊥ =
     λ some e. elim c.bodies-test.branch [ else-bodies-test w ↦ omega (arith, some, w.bodies-test.false) | then-bodies-test+else-most-shown+then-shown-ne-HIDDEN w ↦ w.if-shown-ne-HIDDEN.true (w.shown-in-bodies.ensures ∙ e) ] in
     let q = searched (c.fault-number.ensures _ _ _) c.if-number-ne0.false c.most-most.ensures c.searched-d.ensures c.bodies.invariant.2 in
     allowed q _ (c.visible.ensures c.scan.passes c.scan.counts shows) (sym c.outside.ensures ∙ c.if-outside.false)
@@ -48,14 +48,14 @@ advance-s-requires-clause-ready c =
 
 pub scan-smaller : goal.scan-smaller
 scan-smaller c =
-    let there = is_there c.scan.invariant.1 c.in-Found.ensures in
+    let there = is_there c.scan.invariant.1 c.in-Some.ensures in
     omega (arith, there.0, there.2)
 
 pub scan-preserved : goal.scan-preserved
 scan-preserved c =
-    let there = is_there c.scan.invariant.1 c.in-Found.ensures in
+    let there = is_there c.scan.invariant.1 c.in-Some.ensures in
     let sized = c.advance-s.ensures.sized_f_2 in
-    (c.bodies.invariant.1 ∙ c.if-number-ne0.false, rw there.2 (stands_on c.args.tape.now c.scan.s (functions c.scan.params c.scan.steps c.scan.places) (bodies c.scan.slots c.scan.passes c.scan.counts c.scan.defs) c.scan.at.at c.scan.invariant.1 c.in-Found.x there.0 there.1 c.advance-s.result (functions c.advance-s.new.params c.advance-s.new.steps c.advance-s.new.places) (bodies c.advance-s.new.slots c.advance-s.new.passes c.advance-s.new.counts c.advance-s.new.defs) (clear (goal.at.scan-preserved c).Else-outside) sized.0 sized.1 c.advance-s.ensures.defs_after))
+    (c.bodies.invariant.1 ∙ c.if-number-ne0.false, rw there.2 (stands_on c.args.tape.now c.scan.s (functions c.scan.params c.scan.steps c.scan.places) (bodies c.scan.slots c.scan.passes c.scan.counts c.scan.defs) c.scan.at.at c.scan.invariant.1 c.in-Some.x there.0 there.1 c.advance-s.result (functions c.advance-s.new.params c.advance-s.new.steps c.advance-s.new.places) (bodies c.advance-s.new.slots c.advance-s.new.passes c.advance-s.new.counts c.advance-s.new.defs) (clear (goal.at.scan-preserved c).Else-outside) sized.0 sized.1 c.advance-s.ensures.defs_after))
 
 pub answer-requires : goal.answer-requires
 answer-requires c = (known_room c.scan.invariant.1, room_of c.scan.invariant.1)
@@ -67,14 +67,14 @@ returns c =
     let rest = at_end (more (due_of c.scan.s.due)) (scan_of c.scan.s (functions c.scan.params c.scan.steps c.scan.places) rows) c.scan.at.at in
     let is : (m k : ℕ) → m ≡ k → judge m c.scan.at.at rest ≡ judge k c.scan.at.at rest = λ m k e. ap (λ (i : ℕ). judge i c.scan.at.at rest) e in
     c.answer.ensures c.scan.params rows ∙ elim c.match-next.branch [
-      | in-Found+then-number-ne0 w ↦ is _ _ w.number-is ∙ fault_stops here w.in-Found.ensures _ rest (w.fault-number.ensures _ _ _) w.if-number-ne0.true
-      | in-Found+else-number-ne0+then-bodies-test+then-most-shown w ↦
+      | in-Some+then-number-ne0 w ↦ is _ _ w.number-is ∙ fault_stops here w.in-Some.ensures _ rest (w.fault-number.ensures _ _ _) w.if-number-ne0.true
+      | in-Some+else-number-ne0+then-bodies-test+then-most-shown w ↦
           let q = searched (w.fault-number.ensures _ _ _) w.if-number-ne0.false w.most-most.ensures w.searched-d.ensures w.bodies.invariant.2 in
-          is _ _ w.number-is ∙ slot_stops here w.in-Found.ensures rest (barred q _ w.bodies-test.true w.shown.ensures w.if-most-shown.true)
-      | in-Found+else-number-ne0+then-outside w ↦
-          let shows : 0 < w.bodies.d → rank (shown_by c.scan.slots c.scan.defs w.bodies.d w.in-Found.x.p) ≡ 0 → ⊥ =
+          is _ _ w.number-is ∙ slot_stops here w.in-Some.ensures rest (barred q _ w.bodies-test.true w.shown.ensures w.if-most-shown.true)
+      | in-Some+else-number-ne0+then-outside w ↦
+          let shows : 0 < w.bodies.d → rank (shown_by c.scan.slots c.scan.defs w.bodies.d w.in-Some.x.p) ≡ 0 → ⊥ =
           λ some e. elim w.bodies-test.branch [ else-bodies-test w' ↦ omega (arith, some, w'.bodies-test.false) | then-bodies-test+else-most-shown+then-shown-ne-HIDDEN w' ↦ w'.if-shown-ne-HIDDEN.true (w'.shown-in-bodies.ensures ∙ e) ] in
           let q = searched (w.fault-number.ensures _ _ _) w.if-number-ne0.false w.most-most.ensures w.searched-d.ensures w.bodies.invariant.2 in
-          is _ _ w.number-is ∙ slot_stops here w.in-Found.ensures rest (refused q _ (w.visible.ensures c.scan.passes c.scan.counts shows) (sym w.outside.ensures ∙ w.if-outside.true))
+          is _ _ w.number-is ∙ slot_stops here w.in-Some.ensures rest (refused q _ (w.visible.ensures c.scan.passes c.scan.counts shows) (sym w.outside.ensures ∙ w.if-outside.true))
       | in_default w ↦ is _ _ (w.number-is ∙ c.scan.invariant.0) ∙ scan_ends here (sym w.in_default.is ∙ c.next.ensures)
     ]

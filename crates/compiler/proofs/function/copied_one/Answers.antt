@@ -9,4 +9,4 @@ pub returns-in_default : goal.returns-in_default
 returns-in_default c = sym (copy_end c.args.table.now (desk_of c.args.out.now c.args.from) (sym c.in_default.ensures))
 
 pub returns : goal.returns
-returns c = ap (λ (s : Sheet). desk s c.in-Found.next.at) c.put-emitter.ensures ∙ sym (copy_found c.args.table.now (desk_of c.args.out.now c.args.from) c.in-Found.x c.in-Found.next (sym c.in-Found.ensures))
+returns c = ap (λ (s : Sheet). desk s c.in-Some.next.at) c.put-emitter.ensures ∙ sym (copy_found c.args.table.now (desk_of c.args.out.now c.args.from) c.in-Some.x c.in-Some.next (sym c.in-Some.ensures))

@@ -18,8 +18,8 @@ pub returns : goal.returns
 unfolding body_of puts write
 returns c =
     let a = c.args in
-    let x = c.in-Found.x in
-    let i = c.in-Found.next in
+    let x = c.in-Some.x in
+    let i = c.in-Some.next in
     let n = c.slots_of-slots.result in
     let z = rolls (desk_of a.out.now a.from) a.params.now in
     let walk = walk_s a.params.now a.table.now (layout n) 16 0 in
@@ -27,4 +27,4 @@ returns c =
     let walked = c.statement-body.ensures ∙ ap (λ (s : Sheet). walk (desk s i.at)) begun in
     let ended = ap (λ (s : Sheet). desk s c.statement-body.result.reader.at) c.put-emitter.ensures ∙ ap (on (puts (ret n))) walked in
     let is = ended ∙ ap (λ (m : ℕ). body_of a.table.now a.depths.now a.f m x i z) c.slots_of-slots.ensures in
-    (λ j. rolls ((c.with.ensures _ ∙ is) j) (c.keep.ensures j)) ∙ sym (walk_f_found a.table.now a.depths.now a.f z x i (sym c.in-Found.ensures))
+    (λ j. rolls ((c.with.ensures _ ∙ is) j) (c.keep.ensures j)) ∙ sym (walk_f_found a.table.now a.depths.now a.f z x i (sym c.in-Some.ensures))

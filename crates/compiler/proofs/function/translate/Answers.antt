@@ -16,9 +16,9 @@ pub returns : goal.returns
 unfolding times
 returns c =
     let a = c.args in
-    let x = c.in-Found.x in
+    let x = c.in-Some.x in
     let t = a.table.now in
     let begun = start_is a.out.now c.new-emitter.result c.new-reader.result.at c.new-emitter.ensures c.new-reader.ensures in
     let heads = c.copied-arrays.ensures ∙ ap (times x.q (copy t)) (c.copied-program.ensures ∙ ap (copy t) begun) in
     c.functions.ensures ∙ ap (λ (z : Desk). walk_fs t a.depths.now x.p 0 (rolls z (replicate 16 0))) heads
-    ∙ sym (walk_p_found t a.depths.now a.out.now x c.in-Found.field-1 (ap (read_at t) (sym c.new-reader.ensures) ∙ sym c.in-Found.ensures))
+    ∙ sym (walk_p_found t a.depths.now a.out.now x c.in-Some.field-1 (ap (read_at t) (sym c.new-reader.ensures) ∙ sym c.in-Some.ensures))

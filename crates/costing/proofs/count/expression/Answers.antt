@@ -10,13 +10,13 @@ use Rattle.tape.specs.Held.{hold}
 use Rattle.costing.specs.Counting.{expression}
 use Rattle.costing.proofs.Turns.{tally_over, tally_none, tally_step}
 use Rattle.costing.proofs.count.expression.Goals as goal
-use Rattle.costing.proofs.count.expression.Goals.{In-Found}
+use Rattle.costing.proofs.count.expression.Goals.{In-Some}
 
 -- the record that the count stands at
-there : (c : In-Found) → let t = c.args.table.now in
-    (c.loop-parts.here.at.at < records t) × (from t c.loop-parts.here.at.at ≡ c.in-Found.x ∷ from t (c.loop-parts.here.at.at + 1)) × (c.in-Found.next.at ≡ c.loop-parts.here.at.at + 1)
+there : (c : In-Some) → let t = c.args.table.now in
+    (c.loop-parts.here.at.at < records t) × (from t c.loop-parts.here.at.at ≡ c.in-Some.x ∷ from t (c.loop-parts.here.at.at + 1)) × (c.in-Some.next.at ≡ c.loop-parts.here.at.at + 1)
 there c =
-    found_on c.args.table.now c.loop-parts.here.at.at _ _ (sym c.in-Found.ensures)
+    found_on c.args.table.now c.loop-parts.here.at.at _ _ (sym c.in-Some.ensures)
 
 pub returns-in_default : goal.returns-in_default
 unfolding expression
@@ -26,12 +26,12 @@ returns-in_default c =
     sym (tally_none a.params.now a.steps.now c.loop-parts.parts c.loop-parts.here over) ∙ c.loop-parts.invariant
 
 pub loop-parts-smaller : goal.loop-parts-smaller
-loop-parts-smaller c = omega (arith, (there (goal.at.loop-parts-smaller c).In-Found).0, (there (goal.at.loop-parts-smaller c).In-Found).2)
+loop-parts-smaller c = omega (arith, (there (goal.at.loop-parts-smaller c).In-Some).0, (there (goal.at.loop-parts-smaller c).In-Some).2)
 
 pub loop-parts-preserved : goal.loop-parts-preserved
 loop-parts-preserved c =
     let a = c.args in
-    let (_, is, on) = there (goal.at.loop-parts-preserved c).In-Found in
+    let (_, is, on) = there (goal.at.loop-parts-preserved c).In-Some in
     tally_step a.params.now a.steps.now a.table.now c.loop-parts.here c.plus-one.result _ _ c.loop-parts.parts c.sum-parts.result _
     c.loop-parts-test.true is on c.weight.ensures c.plus-one.ensures
     (c.sum-parts.ensures ∙ ap (λ (n : ℕ). hold (c.loop-parts.parts - 1 + n)) c.arity.ensures)

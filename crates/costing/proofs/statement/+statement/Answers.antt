@@ -9,16 +9,16 @@ use Rattle.script.proofs.Heads.{head_seq, head_for, head_if}
 use Rattle.costing.specs.Counting.{moved, times, closed, branching, head, statement as counts}
 use Rattle.costing.proofs.Turns.{times_more, times_over, statement_none, statement_end, statement_found}
 use Rattle.costing.proofs.statement.+statement.Goals as goal
-use Rattle.costing.proofs.statement.+statement.Goals.{In-Found}
+use Rattle.costing.proofs.statement.+statement.Goals.{In-Some}
 
 -- where a record was found: the count enters the statement that it begins
-enters : (t : ℕ) (c : In-Found t) → let a = c.args in
+enters : (t : ℕ) (c : In-Some t) → let a = c.args in
     counts a.params.now a.steps.now a.table.now a.left a.ifs a.from ≡
     head a.params.now a.steps.now a.table.now (counts a.params.now a.steps.now a.table.now (a.left - 1)) a.ifs
-    (moved c.in-Found.next.at a.from) (read_s c.in-Found.x)
+    (moved c.in-Some.next.at a.from) (read_s c.in-Some.x)
 enters t c =
     let a = c.args in
-    statement_found a.params.now a.steps.now a.table.now a.left a.ifs a.from c.in-Found.x c.in-Found.next (omega arith) (sym c.in-Found.ensures)
+    statement_found a.params.now a.steps.now a.table.now a.left a.ifs a.from c.in-Some.x c.in-Some.next (omega arith) (sym c.in-Some.ensures)
 
 pub returns-then-left-eq0 : goal.returns-then-left-eq0
 returns-then-left-eq0 t c = sym (statement_none c.args.params.now c.args.steps.now c.args.table.now c.args.left c.args.ifs c.args.from c.if-left-eq0.true)
@@ -38,15 +38,15 @@ returns-after-loop-i t c =
     let a = c.args in
     let l = c.loop-i in
     let f = counts a.params.now a.steps.now a.table.now (a.left - 1) a.ifs in
-    sym (times_over f _ l.i l.last (omega arith)) ∙ l.invariant.1 ∙ rw (head_seq c.in-Found.x c.in-31.is) at (sym (enters t (goal.at.returns-after-loop-i t c).In-Found))
+    sym (times_over f _ l.i l.last (omega arith)) ∙ l.invariant.1 ∙ rw (head_seq c.in-Some.x c.in-31.is) at (sym (enters t (goal.at.returns-after-loop-i t c).In-Some))
 
 pub returns-in-35 : goal.returns-in-35
 unfolding head
 returns-in-35 t c =
     let a = c.args in
-    let x = c.in-Found.x in
+    let x = c.in-Some.x in
     let f = counts a.params.now a.steps.now a.table.now (a.left - 1) a.ifs in
-    c.close_loop.ensures ∙ ap (closed a.from.steps (x.r - x.q)) (c.statement-body.ensures ∙ ap f c.open_loop-open.ensures) ∙ rw (head_for x c.in-35.is) at (sym (enters t (goal.at.returns-in-35 t c).In-Found))
+    c.close_loop.ensures ∙ ap (closed a.from.steps (x.r - x.q)) (c.statement-body.ensures ∙ ap f c.open_loop-open.ensures) ∙ rw (head_for x c.in-35.is) at (sym (enters t (goal.at.returns-in-35 t c).In-Some))
 
 pub returns-in-36 : goal.returns-in-36
 unfolding head branching
@@ -55,7 +55,7 @@ returns-in-36 t c =
     let f = counts a.params.now a.steps.now a.table.now (a.left - 1) (suc a.ifs) in
     let one = rw (add-one a.ifs) at c.statement-then.ensures in
     let other = rw (add-one a.ifs) at c.statement.ensures in
-    other ∙ ap f (one ∙ ap f c.condition-first.ensures) ∙ rw (head_if c.in-Found.x c.in-36.is) at (sym (enters t (goal.at.returns-in-36 t c).In-Found))
+    other ∙ ap f (one ∙ ap f c.condition-first.ensures) ∙ rw (head_if c.in-Some.x c.in-36.is) at (sym (enters t (goal.at.returns-in-36 t c).In-Some))
 
 pub returns-in_default-kind : goal.returns-in_default-kind
-returns-in_default-kind t c = c.single.ensures _ ∙ sym (enters t (goal.at.returns-in_default-kind t c).In-Found)
+returns-in_default-kind t c = c.single.ensures _ ∙ sym (enters t (goal.at.returns-in_default-kind t c).In-Some)

@@ -20,18 +20,18 @@ loop-i-preserved t c =
     let f = walk_e a.params.now a.table.now (a.left - 1) in
     (omega arith, ap (times _ f) c.expression-here.ensures ∙ sym (times_more f _ _ _ c.loop-i-test.true) ∙ c.loop-i.invariant.1)
 
-pub returns-in-End : goal.returns-in-End
-returns-in-End t c =
+pub returns-in-None : goal.returns-in-None
+returns-in-None t c =
     let a = c.args in
-    sym (walk_e_end a.params.now a.table.now a.left (desk_of a.out.now a.from) (omega arith) (sym c.in-End.ensures))
+    sym (walk_e_end a.params.now a.table.now a.left (desk_of a.out.now a.from) (omega arith) (sym c.in-None.ensures))
 
 pub returns-after-loop-i : goal.returns-after-loop-i
 returns-after-loop-i t c =
     let a = c.args in
-    let x = c.in-Found.x in
-    let first = desk (sheet a.out.now a.from.emitter) c.in-Found.next.at in
+    let x = c.in-Some.x in
+    let first = desk (sheet a.out.now a.from.emitter) c.in-Some.next.at in
     let z = desk_of c.loop-i.out c.loop-i.here in
     let f = walk_e a.params.now a.table.now (a.left - 1) in
     let parts = sym (times_over f c.arity-parts.result c.loop-i.i z (omega arith)) ∙ c.loop-i.invariant.1 ∙ ap (λ (n : ℕ). times n f first) c.arity-parts.ensures in
-    let enters = walk_e_found a.params.now a.table.now a.left (desk_of a.out.now a.from) x c.in-Found.next (omega arith) (sym c.in-Found.ensures) in
+    let enters = walk_e_found a.params.now a.table.now a.left (desk_of a.out.now a.from) x c.in-Some.next (omega arith) (sym c.in-Some.ensures) in
     c.with.ensures _ ∙ ap (λ (s : Sheet). desk s z.read) c.own-emitter.ensures ∙ ap (on (own (read_e x))) parts ∙ sym enters

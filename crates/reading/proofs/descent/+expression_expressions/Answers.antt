@@ -4,28 +4,28 @@ use Prim.Native.Nat.{ℕ, ◌+◌, ◌-◌}
 use native.Mathlib.Omega.{arith}
 use mathlib.Core.Path.{◌≡◌, sym, ◌∙◌}
 use Rattle.word.specs.Reader.{read_at}
-use Rattle.word.specs.declared.reader.Read.TheVariants.{Found}
+use Rattle.std.specs.Prelude.{Some, None}
 use Rattle.script.specs.Tree.{Expr}
 use Rattle.script.specs.Parse.{Parsed, parts, parse_e}
 use Rattle.reading.specs.Structure.{roomed, walk_of}
 use Rattle.reading.proofs.Tested.{expression_clear}
 use Rattle.reading.proofs.Descending.{run, run_on, run_stop, run_end, parts_run, expression_ends, expression_faults, expression_deep, expression_parts}
 use Rattle.reading.proofs.descent.+expression_expressions.Goals as goal
-use Rattle.reading.proofs.descent.+expression_expressions.Goals.{expression-After-parts_in-count, expression-In-Found, expressions-At-loop-i}
+use Rattle.reading.proofs.descent.+expression_expressions.Goals.{expression-After-parts_in-count, expression-In-Some, expressions-At-loop-i}
 
-found : (t : ℕ) (c : expression-In-Found t) →
+found : (t : ℕ) (c : expression-In-Some t) →
     let a = c.args in
-    read_at a.table.now a.at.at ≡ Found c.in-Found.x c.in-Found.next
-found t c = sym c.next.ensures ∙ c.in-Found.is
+    read_at a.table.now a.at.at ≡ Some (c.in-Some.x, c.in-Some.next)
+found t c = sym c.next.ensures ∙ c.in-Some.is
 
 one_walk : (t : ℕ) (c : expression-After-parts_in-count t) →
     let a = c.args in
     let e = roomed a.room a.func a.params.now in
-    walk_of (parts (parse_e (a.left - 1) e a.table.now) c.parts_in-count.result c.in-Found.next.at) ≡
+    walk_of (parts (parse_e (a.left - 1) e a.table.now) c.parts_in-count.result c.in-Some.next.at) ≡
     walk_of (parse_e a.left e a.table.now a.at.at)
 one_walk t c =
     let clear = sym (c.expression_fault-number.ensures _) ∙ c.if-number-ne0.false in
-    expression_parts _ _ _ _ _ (sym c.next.ensures ∙ c.in-Found.is) _ _ c.if-left-eq0.false clear c.parts_in-count.ensures
+    expression_parts _ _ _ _ _ (sym c.next.ensures ∙ c.in-Some.is) _ _ c.if-left-eq0.false clear c.parts_in-count.ensures
 
 -- at the loop's head: what is left of the run
 rest : (t : ℕ) (c : expressions-At-loop-i t) →
@@ -39,11 +39,11 @@ expression-returns-in_default t c = c.ended.ensures ∙ sym (expression_ends _ _
 
 pub expression-returns-then-number-ne0 : goal.expression-returns-then-number-ne0
 expression-returns-then-number-ne0 t c =
-    sym (expression_faults _ _ _ _ _ (found t (goal.at.expression-returns-then-number-ne0 t c).In-Found) _ _ (c.expression_fault-number.ensures _) c.if-number-ne0.true)
+    sym (expression_faults _ _ _ _ _ (found t (goal.at.expression-returns-then-number-ne0 t c).In-Some) _ _ (c.expression_fault-number.ensures _) c.if-number-ne0.true)
 
 pub expression-returns-then-left-eq0 : goal.expression-returns-then-left-eq0
 expression-returns-then-left-eq0 t c =
-    sym (expression_deep _ _ _ _ _ (found t (goal.at.expression-returns-then-left-eq0 t c).In-Found) _ c.if-left-eq0.true (sym (c.expression_fault-number.ensures _) ∙ c.if-number-ne0.false))
+    sym (expression_deep _ _ _ _ _ (found t (goal.at.expression-returns-then-left-eq0 t c).In-Some) _ c.if-left-eq0.true (sym (c.expression_fault-number.ensures _) ∙ c.if-number-ne0.false))
 
 pub expression-parts_in-count-requires : goal.expression-parts_in-count-requires
 expression-parts_in-count-requires t c =

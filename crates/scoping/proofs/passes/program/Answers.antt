@@ -4,14 +4,14 @@ use Rattle.word.specs.Reader.{read_at}
 use Rattle.scoping.specs.Passes.{heading_of, heading}
 use Rattle.scoping.proofs.passes.program.Goals as goal
 
-pub returns-in-Found : goal.returns-in-Found
+pub returns-in-Some : goal.returns-in-Some
 unfolding heading heading_of
-returns-in-Found c =
+returns-in-Some c =
     let t = c.args.table.now in
-    rw (ap (read_at t) (sym c.new.ensures) ∙ sym c.next.ensures ∙ c.in-Found.is) refl
+    rw (ap (read_at t) (sym c.new.ensures) ∙ sym c.next.ensures ∙ c.in-Some.is) refl
 
-pub returns-in-End : goal.returns-in-End
+pub returns-in-None : goal.returns-in-None
 unfolding heading heading_of
-returns-in-End c =
+returns-in-None c =
     let t = c.args.table.now in
-    rw (ap (read_at t) (sym c.new.ensures) ∙ sym c.next.ensures ∙ c.in-End.is) refl
+    rw (ap (read_at t) (sym c.new.ensures) ∙ sym c.next.ensures ∙ c.in-None.is) refl

@@ -14,12 +14,12 @@ use Rattle.scoping.proofs.scope.+statement.Goals.{At-loop-parts}
 -- at the loop's head: the answer is what is left of the walk
 whole : (t : ℕ) (c : At-loop-parts t) →
     let a = c.args in
-    let x = c.in-Found.x in
+    let x = c.in-Some.x in
     walks (scoping a.table.now) a.table.now a.left a.start.at a.slots ≡
     nested (walks (scoping a.table.now) a.table.now (a.left - 1)) (leaves x.kind a.slots) c.loop-parts.parts (walked_of c.loop-parts.walk)
 unfolding scoping
 whole t c =
-    let read = sym c.next.ensures ∙ c.in-Found.is in
+    let read = sym c.next.ensures ∙ c.in-Some.is in
     walk_found _ _ _ _ _ _ _ (omega arith) read ∙
     rw (← c.statements-parts.ensures) (ap (nested _ _ _) (sym (ap walked_of c.enter-walk.ensures ∙ walked_walk _))) ∙
     sym c.loop-parts.invariant
@@ -29,7 +29,7 @@ unfolding walk_of
 returns-then-left-eq0 t c = ap walk_of (sym (walk_deep _ _ _ _ _ c.if-left-eq0.true))
 
 pub enter-walk-requires : goal.enter-walk-requires
-enter-walk-requires t c = (read_found _ _ _ _ (sym c.next.ensures ∙ c.in-Found.is)).2
+enter-walk-requires t c = (read_found _ _ _ _ (sym c.next.ensures ∙ c.in-Some.is)).2
 
 pub returns-in_default : goal.returns-in_default
 unfolding walk_of walked_of
@@ -41,9 +41,9 @@ loop-parts-preserved t c =
     let turn = ap walked_of c.leave-walk.ensures ∙ walked_walk _ ∙ ap (leaves _ _) (ap walked_of c.statement.ensures ∙ walked_walk _) in
     ap (nested _ _ _) turn ∙ sym (nested_on _ _ _ _ _ (omega arith)) ∙ ap (nested _ _ _) (sym (ap walked_of c.in-On.is)) ∙ c.loop-parts.invariant
 
-pub returns-in-End : goal.returns-in-End
+pub returns-in-None : goal.returns-in-None
 unfolding walk_of
-returns-in-End t c = ap walk_of (sym (walk_end _ _ _ _ _ (sym c.next.ensures ∙ c.in-End.is)))
+returns-in-None t c = ap walk_of (sym (walk_end _ _ _ _ _ (sym c.next.ensures ∙ c.in-None.is)))
 
 pub returns-after-loop-parts : goal.returns-after-loop-parts
 unfolding walk_of

@@ -11,16 +11,16 @@ use Rattle.scoping.proofs.scope.functions.Goals.{After-statement}
 
 -- the walk over a function's statement
 walked : (c : After-statement) → let t = c.args.table.now in
-    walk (scoping t) t 16 c.in-Found.next.at (parameters_of c.in-Found.x.p) ≡ walked_of c.statement.result
+    walk (scoping t) t 16 c.in-Some.next.at (parameters_of c.in-Some.x.p) ≡ walked_of c.statement.result
 walked c = sym (ap walked_of c.statement.ensures ∙ walked_walk _ ∙ ap (walk _ _ 16 _) c.parameters.ensures)
 
 -- what is left, from that function on
 rest : (c : After-statement) → let t = c.args.table.now in
-    then_first ((scoped_func t).body tt c.in-Found.x c.in-Found.next.at) (funcs_from (scoped_func t) t (c.loop-left.left - 1) tt) ≡
+    then_first ((scoped_func t).body tt c.in-Some.x c.in-Some.next.at) (funcs_from (scoped_func t) t (c.loop-left.left - 1) tt) ≡
     funcs_from (scoped_func t) t c.args.count tt c.args.start.at
 unfolding scoped_func
 rest c =
-    sym (funcs_found _ _ _ _ _ _ _ (omega arith) (sym c.next.ensures ∙ c.in-Found.is)) ∙ c.loop-left.invariant
+    sym (funcs_found _ _ _ _ _ _ _ (omega arith) (sym c.next.ensures ∙ c.in-Some.is)) ∙ c.loop-left.invariant
 
 pub returns-in_default : goal.returns-in_default
 returns-in_default c = sym (funcs_end _ _ _ _ _ (sym c.next.ensures ∙ c.in_default.is)) ∙ c.loop-left.invariant

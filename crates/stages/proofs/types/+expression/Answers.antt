@@ -14,10 +14,10 @@ pub loop-more-preserved : goal.loop-more-preserved
 loop-more-preserved t c =
     ap (gather _ _) (c.with_part-parts.ensures ∙ ap (λ (y : Typed). with_part c.loop-more.parts y) c.expression.ensures) ∙ sym (gather_on _ _ _ (omega arith)) ∙ c.loop-more.invariant
 
-pub returns-in-End : goal.returns-in-End
-returns-in-End t c = c.nothing-in-End.ensures ∙ sym (typed_end _ _ _ _ _ (sym c.next.ensures ∙ c.in-End.is))
+pub returns-in-None : goal.returns-in-None
+returns-in-None t c = c.nothing-in-None.ensures ∙ sym (typed_end _ _ _ _ _ (sym c.next.ensures ∙ c.in-None.is))
 
 pub returns-after-loop-more : goal.returns-after-loop-more
 returns-after-loop-more t c =
     let over = sym (gather_over _ _ _ (omega arith)) ∙ c.loop-more.invariant ∙ gather_same _ c.arity-more.ensures c.no_parts-parts.ensures in
-    c.judge.ensures ∙ ap (judged _ _ _) over ∙ sym (typed_found _ _ _ _ _ _ _ (omega arith) (sym c.next.ensures ∙ c.in-Found.is))
+    c.judge.ensures ∙ ap (judged _ _ _) over ∙ sym (typed_found _ _ _ _ _ _ _ (omega arith) (sym c.next.ensures ∙ c.in-Some.is))

@@ -11,19 +11,19 @@ use Rattle.stages.proofs.types.functions.Goals.{After-note, After-statement}
 
 -- the walk over a function's statement
 walked : (c : After-statement) → let t = c.args.table.now in
-    walk (typing t c.loop-left.params) t 16 c.in-Found.next.at 0 ≡ walked_of c.statement.result
+    walk (typing t c.loop-left.params) t 16 c.in-Some.next.at 0 ≡ walked_of c.statement.result
 walked c = sym (ap walked_of c.statement.ensures ∙ walked_walk _)
 
 -- what is left, from that function on
 rest : (c : After-statement) → let t = c.args.table.now in
     let m : Known = record { func = c.loop-left.known; params = c.loop-left.params } in
-    then_first ((typed_func t).body m c.in-Found.x c.in-Found.next.at) (funcs_from (typed_func t) t (c.loop-left.left - 1) ((typed_func t).note m c.in-Found.x)) ≡
+    then_first ((typed_func t).body m c.in-Some.x c.in-Some.next.at) (funcs_from (typed_func t) t (c.loop-left.left - 1) ((typed_func t).note m c.in-Some.x)) ≡
     funcs_from (typed_func t) t c.args.count nobody c.args.start.at
 rest c =
-    sym (funcs_found _ _ _ _ _ _ _ (omega arith) (sym c.next.ensures ∙ c.in-Found.is)) ∙ c.loop-left.invariant.1
+    sym (funcs_found _ _ _ _ _ _ _ (omega arith) (sym c.next.ensures ∙ c.in-Some.is)) ∙ c.loop-left.invariant.1
 
 -- and what is noted of it
-after_note : (c : After-note) → (typed_func c.args.table.now).note (record { func = c.loop-left.known; params = c.loop-left.params }) c.in-Found.x ≡
+after_note : (c : After-note) → (typed_func c.args.table.now).note (record { func = c.loop-left.known; params = c.loop-left.params }) c.in-Some.x ≡
     record { func = c.loop-left.known + 1; params = c.note.new.params }
 unfolding typed_func
 after_note c = rw c.note.ensures refl

@@ -1,138 +1,105 @@
--- Walks over PROGRAM, its arrays and its functions, by what the code finds at each record; and the stage's answer by the whole walk.
--- Assumes nothing.
-use Prim.Native.Nat.{ℕ, suc, ◌+◌, ◌≤◌}
-use native.Mathlib.Omega.{arith}
-use mathlib.Core.Path.{◌≡◌, refl}
-use mathlib.Core.Bool.{Bool, true, false, cond, ◌&&◌, and-eq-true_iff}
-use mathlib.Core.List.{List, ◌∷◌}
+-- Walks over PROGRAM, its arrays and its functions, in the code's steps; and the stage's answer by the whole walk. Assumes nothing.
+use Rattle.std.proofs.Common.{◌≡◌, ℕ, suc, ◌+◌, ◌-◌, ◌<◌, ◌≤◌, Bool, true, false, cond, ◌&&◌, List, ◌∷◌, length, refl, sym, ap, ◌∙◌, arith, add-one, ltb, leb}
+use Rattle.std.specs.Prelude.{Ok, Err}
+use mathlib.Core.Bool.{and-eq-true_iff}
 use borrow.Author.Tests.{leb-true}
-use lib.Dec.{ltb, leb}
-use lib.ListN.{length}
-use Rattle.word.specs.Records.{records, sized}
+use Rattle.word.specs.Records.{records, sized, same}
 use Rattle.word.specs.Reader.{read_at}
+use Rattle.word.specs.Refusals.{OrRefused, refuse, ◌>>=◌}
 use Rattle.word.specs.declared.Record.{Record}
 use Rattle.word.specs.declared.reader.Reader.{Reader}
-use Rattle.std.specs.Prelude.{Some, None}
 use Rattle.script.specs.Tree.{Program}
-use Rattle.script.specs.Table.{program, array, function}
-use Rattle.script.specs.Parse.{Parsed, parsed, refused, parse_s, outermost, entered, passed, func_of, headed, parse_funcs, nowhere, parse_arrays, parse_program, wholly, read_table}
-use Rattle.script.specs.Stage.{clean, fault as at_fault}
-use Rattle.reading.specs.Structure.{record_fault, walk_of, fault_of, structured}
+use Rattle.script.specs.Table.{program, array, function, lead_by, Lead, node, fault}
+use Rattle.script.specs.Parse.{Parsed, parsed, refused, and_then, sequence, parse_s, outermost, entered, passed, func_of, headed, parse_funcs, nowhere, parse_arrays, parse_program, wholly, read_table}
+use Rattle.script.specs.Stage.{clean}
 use Rattle.script.specs.declared.Env.{Env}
-use Rattle.reading.specs.declared.descent.Walk.{Walk}
-use Rattle.reading.specs.declared.descent.Walk.TheVariants.{On, Stop}
-use Rattle.reading.proofs.Tested.{tests_clear, lead_end, lead_fault, lead_node, read_on}
-use Rattle.reading.proofs.Descending.{step, then_walk, same_walk}
+use Rattle.reading.specs.Structure.{due_of, leads, walk_of, fault_of, structured}
+use Rattle.reading.proofs.Tested.{in_range, lead_is}
+use Rattle.reading.proofs.Descending.{Walk, then_walk, same_walk, sequence_one}
 
--- ---- the arrays
-module _ (t : List ℕ) (at n m : ℕ) (one : n ≡ suc m) where
-  pub array_ends : read_at t at ≡ None → walk_of (parse_arrays n t at) ≡ Stop 3 (records t)
-  unfolding parse_arrays headed walk_of
-  array_ends h = rw (one, lead_end array (nowhere 0) t at h) refl
+-- ---- the arrays: what is left of them after k of n
+pub arrays_more : (t : List ℕ) (n k at : ℕ) → k < n
+    → walk_of (parse_arrays (n - k) t at)
+    ≡ (due_of t (read_at t at) >>= λ found. leads (lead_by array (nowhere 0) found.0 at) >>= λ u. walk_of (parse_arrays (n - (k + 1)) t found.1.at))
+unfolding parse_arrays headed walk_of
+arrays_more t n k at h =
+    let one : n - k ≡ suc (n - (k + 1)) = omega arith in
+    rw one
+    (lead_is array (nowhere 0) t at (λ l. walk_of (headed (λ n' i. and_then (parse_arrays (n - (k + 1)) t i) (λ ls j. parsed (n' ∷ ls) j)) at l)) _
+    (λ x r next. rw next (same_walk (parse_arrays (n - (k + 1)) t (at + 1)) (array.read x ∷◌))) (λ number place. refl))
 
-  module _ (x : Record) (r : Reader) (found : read_at t at ≡ Some (x, r)) where
-    pub array_faults : (k : ℕ) → k ≡ record_fault array (nowhere 0) x → (k ≡ 0 → ⊥) → walk_of (parse_arrays n t at) ≡ Stop k at
-    unfolding parse_arrays headed walk_of
-    array_faults k is some = rw (one, lead_fault array (nowhere 0) t at x r k found is some) refl
-
-    pub array_on : record_fault array (nowhere 0) x ≡ 0 → walk_of (parse_arrays n t at) ≡ walk_of (parse_arrays m t r.at)
-    unfolding parse_arrays headed
-    array_on is = rw (one, lead_node array (nowhere 0) t at x r found is, read_on t at x r found) (same_walk (parse_arrays m t (at + 1)) (array.read x ∷◌))
-
-pub arrays_end : (t : List ℕ) (at n : ℕ) → n ≡ 0 → walk_of (parse_arrays n t at) ≡ On (record { at = at })
+pub arrays_all : (t : List ℕ) (n k at : ℕ) → n ≤ k → walk_of (parse_arrays (n - k) t at) ≡ Ok (record { at = at })
 unfolding parse_arrays walk_of
-arrays_end t at n z = rw z refl
+arrays_all t n k at h = let none : n - k ≡ 0 = omega arith in rw none refl
 
--- ---- the functions
--- before a FUNC: so many functions lie before it, with these parameters
-abbrev pub before : ℕ → ℕ → List ℕ → Env
-before arrays func params = record { slots = 0; arrays = arrays; func = func; params = params }
+-- ---- the functions: what is left of them after k of n, where those before are known to e
+pub functions_more : (t : List ℕ) (e : Env) (n k at : ℕ) → k < n
+    → walk_of (parse_funcs (n - k) e t at)
+    ≡ (due_of t (read_at t at) >>= λ found.
+    leads (lead_by function e found.0 at) >>= λ u.
+    walk_of (sequence (parse_s 16 outermost (entered e (function.read found.0)) t) 1 found.1.at)
+    >>= λ r. walk_of (parse_funcs (n - (k + 1)) (passed e (function.read found.0)) t r.at))
+unfolding parse_funcs headed walk_of
+functions_more t e n k at h =
+    let one : n - k ≡ suc (n - (k + 1)) = omega arith in
+    rw one
+    (lead_is function e t at
+    (λ l. walk_of (headed
+    (λ h i. and_then (parse_s 16 outermost (entered e h) t i) (λ s j. and_then (parse_funcs (n - (k + 1)) (passed e h) t j) (λ fs k. parsed (func_of h s ∷ fs) k)))
+    at l)) _
+    (λ x r next.
+    let h = function.read x in
+    rw (next, sequence_one)
+    (then_walk (parse_s 16 outermost (entered e h) t (at + 1)) _ (λ j. walk_of (parse_funcs (n - (k + 1)) (passed e h) t j))
+    (λ s j. same_walk (parse_funcs (n - (k + 1)) (passed e h) t j) (func_of h s ∷◌))))
+    (λ number place. refl))
 
-module _ (t : List ℕ) (e : Env) (at n m : ℕ) (one : n ≡ suc m) where
-  pub function_ends : read_at t at ≡ None → walk_of (parse_funcs n e t at) ≡ Stop 3 (records t)
-  unfolding parse_funcs headed walk_of
-  function_ends h = rw (one, lead_end function e t at h) refl
-
-  module _ (x : Record) (r : Reader) (found : read_at t at ≡ Some (x, r)) where
-    pub function_faults : (k : ℕ) → k ≡ record_fault function e x → (k ≡ 0 → ⊥) → walk_of (parse_funcs n e t at) ≡ Stop k at
-    unfolding parse_funcs headed walk_of
-    function_faults k is some = rw (one, lead_fault function e t at x r k found is some) refl
-
-    -- its statement, and then the functions after it
-    pub function_walk : (w : Walk) → record_fault function e x ≡ 0 → w ≡ walk_of (parse_s 16 outermost (entered e (function.read x)) t r.at)
-        → walk_of (parse_funcs n e t at) ≡ step w (λ j. walk_of (parse_funcs m (passed e (function.read x)) t j))
-    unfolding parse_funcs headed
-    function_walk w is body =
-        let h = function.read x in
-        rw (one, lead_node function e t at x r found is, body, read_on t at x r found)
-        (then_walk (parse_s 16 outermost (entered e h) t (at + 1)) _ (λ j. walk_of (parse_funcs m (passed e h) t j))
-        (λ s j. same_walk (parse_funcs m (passed e h) t j) (func_of h s ∷◌)))
-
-pub functions_end : (t : List ℕ) (e : Env) (at n : ℕ) → n ≡ 0 → walk_of (parse_funcs n e t at) ≡ On (record { at = at })
+pub functions_all : (t : List ℕ) (e : Env) (n k at : ℕ) → n ≤ k → walk_of (parse_funcs (n - k) e t at) ≡ Ok (record { at = at })
 unfolding parse_funcs walk_of
-functions_end t e at n z = rw z refl
+functions_all t e n k at h = let none : n - k ≡ 0 = omega arith in rw none refl
 
--- ---- the program
-module _ (t : List ℕ) where
-  pub program_ends : read_at t 0 ≡ None → walk_of (parse_program t) ≡ Stop 3 (records t)
-  unfolding parse_program headed walk_of
-  program_ends h = rw (lead_end program (nowhere 0) t 0 h) refl
-
-  module _ (x : Record) (r : Reader) (found : read_at t 0 ≡ Some (x, r)) where
-    pub program_faults : (k : ℕ) → k ≡ record_fault program (nowhere 0) x → (k ≡ 0 → ⊥) → walk_of (parse_program t) ≡ Stop k 0
-    unfolding parse_program headed walk_of
-    program_faults k is some = rw (lead_fault program (nowhere 0) t 0 x r k found is some) refl
-
-    -- its arrays, and then its functions
-    pub program_walk : (w : Walk) → record_fault program (nowhere 0) x ≡ 0 → w ≡ walk_of (parse_arrays x.q t r.at)
-        → walk_of (parse_program t) ≡ step w (λ j. walk_of (parse_funcs x.p (nowhere x.q) t j))
-    unfolding parse_program headed program
-    program_walk w is first =
-        rw (lead_node program (nowhere 0) t 0 x r found is, first, read_on t 0 x r found)
-        (then_walk (parse_arrays x.q t 1) _ (λ j. walk_of (parse_funcs x.p (nowhere x.q) t j))
-        (λ ls j. same_walk (parse_funcs x.p (nowhere x.q) t j) (λ fs. record { arrays = ls; funcs = fs })))
+-- ---- the program: its arrays, and then its functions
+pub program_is : (t : List ℕ)
+    → walk_of (parse_program t)
+    ≡ (due_of t (read_at t 0) >>= λ found.
+    leads (lead_by program (nowhere 0) found.0 0) >>= λ u.
+    walk_of (parse_arrays found.0.q t found.1.at) >>= λ r. walk_of (parse_funcs found.0.p (nowhere found.0.q) t r.at))
+unfolding parse_program headed walk_of program
+program_is t =
+    lead_is program (nowhere 0) t 0
+    (λ l. walk_of {A = Program} (headed
+    (λ h i.
+    and_then (parse_arrays h.arrays t i) (λ ls j.
+    and_then (parse_funcs h.functions (nowhere h.arrays) t j) (λ fs k. parsed (record { arrays = ls; funcs = fs }) k)))
+    0 l)) _
+    (λ x r next. rw next
+    (then_walk (parse_arrays x.q t 1) _ (λ j. walk_of (parse_funcs x.p (nowhere x.q) t j))
+    (λ ls j. same_walk (parse_funcs x.p (nowhere x.q) t j) (λ fs. record { arrays = ls; funcs = fs }))))
+    (λ number place. refl)
 
 -- sixteen functions at most
-pub program_room : (e : Env) (x : Record) → record_fault program e x ≡ 0 → x.p ≤ 16
+pub program_room : (e : Env) (x : Record) (at : ℕ) → leads (lead_by program e x at) ≡ Ok tt → x.p ≤ 16
 unfolding program
-program_room e x is =
-    let (due, blank, range) = tests_clear program e x is in
-    let (some, arrays) = (and-eq-true_iff (leb 1 x.p && leb x.p 16) (leb x.q 8)).0 range in
+program_room e x at is =
+    let (some, arrays) = (and-eq-true_iff (leb 1 x.p && leb x.p 16) (leb x.q 8)).0 (in_range program e x at is) in
     leb-true x.p 16 ((and-eq-true_iff (leb 1 x.p) (leb x.p 16)).0 some).1
 
--- ---- the stage
+-- ---- the stage: 6 where records are left over
+pub stage_is : (t : List ℕ) → structured t ≡ cond (sized 4096 (length t)) (walk_of (parse_program t) >>= λ r. cond (ltb r.at (records t)) (refuse 6 r.at) clean) (refuse 1 0)
+unfolding structured read_table fault_of wholly walk_of
+stage_is t = by (sized 4096 (length t)) (parse_program t)
+  where
+    over : (b : Bool) (p : Program) (i : ℕ) → fault_of (cond b (refused 6 i) (parsed p i)) ≡ cond b (refuse 6 i) clean
+    over true p i = refl
+    over false p i = refl
+
+    by : (b : Bool) (p : Parsed Program)
+        → fault_of (cond b (wholly (records t) p) (refused 1 0)) ≡ cond b (walk_of p >>= λ r. cond (ltb r.at (records t)) (refuse 6 r.at) clean) (refuse 1 0)
+    by true (parsed p i) = over (ltb i (records t)) p i
+    by true (refused number place) = refl
+    by false p = refl
+
 module _ (t : List ℕ) where
-  abbrev count : ℕ
-  count = records t
-
-  extra : (b : Bool) (p : Program) (i : ℕ) → fault_of (cond b (refused 6 i) (parsed p i)) ≡ cond b (at_fault 6 i) clean
-  unfolding fault_of
-  extra true p i = refl
-  extra false p i = refl
-
-  wholly_on : (p : Parsed Program) (r : Reader) → walk_of p ≡ On r → fault_of (wholly count p) ≡ cond (ltb r.at count) (at_fault 6 r.at) clean
-  unfolding wholly walk_of
-  wholly_on (parsed p i) r is = let same : i ≡ r.at = cc in rw (← same) (extra (ltb i count) p i)
-  wholly_on (refused number place) r is = let z : ◌≡◌ {A = ℕ} 0 1 = cc in absurd (omega arith)
-
-  wholly_stop : (p : Parsed Program) (number place : ℕ) → walk_of p ≡ Stop number place → fault_of (wholly count p) ≡ at_fault number place
-  unfolding wholly walk_of fault_of
-  wholly_stop (parsed p i) number place is = let z : ◌≡◌ {A = ℕ} 0 1 = cc in absurd (omega arith)
-  wholly_stop (refused n p) number place is = cc
-
-  pub structure_one : sized 4096 (length t) ≡ false → structured t ≡ at_fault 1 0
-  unfolding structured read_table fault_of
-  structure_one is = rw is refl
-
-  pub structure_on : (r : Reader) → sized 4096 (length t) ≡ true → walk_of (parse_program t) ≡ On r
-      → structured t ≡ cond (ltb r.at count) (at_fault 6 r.at) clean
-  unfolding structured read_table
-  structure_on r is w = rw is (wholly_on (parse_program t) r w)
-
-  pub structure_stop : (number place : ℕ) → sized 4096 (length t) ≡ true → walk_of (parse_program t) ≡ Stop number place → structured t ≡ at_fault number place
-  unfolding structured read_table
-  structure_stop number place is w = rw is (wholly_stop (parse_program t) number place w)
-
   -- ---- what the answer says: a table passes exactly if it is read
   pub clean_read : structured t ≡ clean → (p : Program) × (i : ℕ) × (read_table t ≡ parsed p i)
   unfolding structured fault_of
@@ -146,6 +113,6 @@ module _ (t : List ℕ) where
   unfolding structured fault_of
   read_clean p i e = rw e refl
 
-  pub refused_fault : (number place : ℕ) → read_table t ≡ refused number place → structured t ≡ at_fault number place
+  pub refused_fault : (number place : ℕ) → read_table t ≡ refused number place → structured t ≡ refuse number place
   unfolding structured fault_of
   refused_fault number place e = rw e refl

@@ -1,36 +1,34 @@
--- The first stage as the code has it: its refusals (1 to 7) as a stage's answer, a record's fault as a number, a record's parts as counts,
--- a walk without its tree. Assumes nothing: these are definitions.
-use Rattle.std.specs.Prelude.{ℕ, List, cond, get_or}
-use Rattle.word.specs.Records.{same}
+-- The first stage as the code has it: its refusals (1 to 7) as a stage's answer, the record that is due, a record's parts as counts, a walk without
+-- its tree. Assumes nothing: these are definitions.
+use Rattle.std.specs.Prelude.{ℕ, List, get_or, Ok, Some, None}
+use Rattle.word.specs.Records.{records}
+use Rattle.word.specs.Reader.{Read}
+use Rattle.word.specs.Refusals.{OrRefused, refuse}
 use Rattle.word.specs.declared.Record.{Record}
-use Rattle.script.specs.Table.{HeadE, NUM, TRUE, FALSE, VAR, GET, LNOT, BNOT, BIN, CALL, HeadS, SKIP, SEQ, DEF, SET, PUT, FOR, IF, RETURN, Class}
+use Rattle.word.specs.declared.reader.Reader.{Reader}
+use Rattle.script.specs.Table.{HeadE, NUM, TRUE, FALSE, VAR, GET, LNOT, BNOT, BIN, CALL, HeadS, SKIP, SEQ, DEF, SET, PUT, FOR, IF, RETURN, Lead, node, fault}
 use Rattle.script.specs.Parse.{Parsed, parsed, refused, Nest, read_table}
-use Rattle.script.specs.Stage.{clean, fault}
-use Rattle.script.specs.declared.Env.{Env}
-use Rattle.script.specs.Stage.{First}
-use Rattle.reading.specs.declared.leads.Room.{Room}
+use Rattle.script.specs.Stage.{First, clean}
 use Rattle.reading.specs.declared.descent.Nesting.{Nesting}
-use Rattle.reading.specs.declared.descent.Walk.{Walk}
-use Rattle.reading.specs.declared.descent.Walk.TheVariants.{On, Stop}
 
 -- ---- the stage: "1; then 2 to 7 together"
 unfoldable pub fault_of : {A : Type 0} → Parsed A → First
 fault_of (parsed a i) = clean
-fault_of (refused number place) = fault number place
+fault_of (refused number place) = refuse number place
 
 unfoldable pub structured : List ℕ → First
 structured t = fault_of (read_table t)
 
 -- ---- one record
-abbrev pub roomed : Room → ℕ → List ℕ → Env
-roomed room func params = record { slots = room.slots; arrays = room.arrays; func = func; params = params }
+-- the record that is due, with the reader past it
+unfoldable pub due_of : List ℕ → Read → OrRefused (Record × Reader)
+due_of t (Some found) = Ok found
+due_of t None = refuse 3 (records t)
 
--- the number of its fault, or 0
-unfoldable pub fields_fault : {A : Type 0} → Class A → Env → Record → ℕ
-fields_fault c e x = cond (same x (c.write (c.read x))) (cond (c.in_range e (c.read x)) 0 5) 4
-
-unfoldable pub record_fault : {A : Type 0} → Class A → Env → Record → ℕ
-record_fault c e x = cond (c.due x.kind) (fields_fault c e x) 2
+-- whether it leads a part of its class
+unfoldable pub leads : {A : Type 0} → Lead A → First
+leads (node h) = clean
+leads (fault number place) = refuse number place
 
 -- how many expressions follow an expression's record; how many a statement's, and how many statements after them
 unfoldable pub parts_in : List ℕ → HeadE → ℕ
@@ -69,6 +67,6 @@ abbrev pub nested : Nesting → Nest
 nested n = record { ifs = n.ifs; fors = n.fors }
 
 -- past what was read, without its tree
-unfoldable pub walk_of : {A : Type 0} → Parsed A → Walk
-walk_of (parsed a i) = On (record { at = i })
-walk_of (refused number place) = Stop number place
+unfoldable pub walk_of : {A : Type 0} → Parsed A → OrRefused Reader
+walk_of (parsed a i) = Ok (record { at = i })
+walk_of (refused number place) = refuse number place

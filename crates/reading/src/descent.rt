@@ -1,103 +1,63 @@
 // Recursive descent over prefix records: the depth that is left falls at each nested expression and statement, and a reader moves from part to
 // part. Refusals 2 to 5, and 7.
-ghost use Rattle.std.specs.Prelude.{◌≡◌, true, not, ◌&&◌, ◌≤◌, eqb};
-ghost use Rattle.word.specs.Records.{records};
+ghost use Rattle.std.specs.Prelude.{◌≡◌, true, not, ◌&&◌, eqb};
 ghost use Rattle.script.specs.Table.{read_s};
 ghost use Rattle.script.specs.Parse.{parts, parse_e, nests, inside, sequence, parse_s};
-ghost use Rattle.reading.specs.Structure.{roomed, nested, walk_of};
+ghost use Rattle.reading.specs.Structure.{nested, walk_of};
 
 use crate::leads::{
-    Room, expression_fault, expressions_in, parts_in, statement_fault, statements_in,
+    due, expression_leads, expressions_in, parts_in, statement_leads, statements_in,
 };
-use word::Record;
-use word::reader::{Read, Reader};
-
-// What was due is there, and the reader is past it; or the first fault.
-#[derive(Clone, Copy)]
-pub enum Walk {
-    On(Reader),
-    Stop { number: u32, place: usize },
-}
+use script::Env;
+use word::reader::Reader;
+use word::{Record, Refusal};
 
 // How many IFs and FORs lie round a statement.
-#[derive(Clone, Copy)]
+#[derive(Clone, Copy, Debug, PartialEq, Eq)]
 pub struct Nesting {
     pub ifs: u32,
     pub fors: u32,
 }
 
-// 3: the table ends early.
-pub fn ended(table: &[u32]) -> Walk
-    ensures { result ≡ Walk.Stop 3 (records table.now) }
-{
-    Walk::Stop {
-        number: 3,
-        place: table.len() / 4,
-    }
-}
-
-// So many expressions, one after another, each with the depth `left`.
+// So many expressions, one after another, each with the depth `left`: the reader past them.
 #[cycle(expression_expressions)]
+#[tactic(auto, using(crate::proofs::Descending::parts_run, crate::proofs::Descending::run_more, crate::proofs::Descending::run_all))]
 fn expressions(
     table: &[u32],
     at: Reader,
     count: u32,
     left: u32,
-    room: Room,
-    func: u32,
-    params: &[u32; 16],
-) -> Walk
-    requires { func ≤ 16 }
-    ensures { result ≡ walk_of (parts (parse_e left (roomed room func params.now) table.now) count at.at) }
+    env: &Env,
+) -> Result<Reader, Refusal>
+    ensures { result ≡ walk_of (parts (parse_e left env.now table.now) count at.at) }
 {
     let mut here = at;
-    let mut i = 0u32;
-    while i < count {
-        match expression(table, here, left, room, func, params) {
-            Walk::On(next) => {
-                here = next;
-            }
-            Walk::Stop { number, place } => {
-                return Walk::Stop { number, place };
-            }
-        }
-        i += 1;
+    for i in 0..count {
+        here = expression(table, here, left, env)?;
     }
-    Walk::On(here)
+    Ok(here)
 }
 
 // The expression at the reader, which may hold others to the depth `left`, itself counted. One without parts, as every second is, needs no call.
 #[cycle(expression_expressions)]
-fn expression(
-    table: &[u32],
-    at: Reader,
-    left: u32,
-    room: Room,
-    func: u32,
-    params: &[u32; 16],
-) -> Walk
-    requires { func ≤ 16 }
-    ensures { result ≡ walk_of (parse_e left (roomed room func params.now) table.now at.at) }
+#[tactic(auto, using(crate::proofs::Descending::expression_is, crate::proofs::Descending::parts_none))]
+fn expression(table: &[u32], at: Reader, left: u32, env: &Env) -> Result<Reader, Refusal>
+    ensures { result ≡ walk_of (parse_e left env.now table.now at.at) }
 {
-    let Read::Found(x, next) = at.next(table) else {
-        return ended(table);
-    };
-    let place = at.at;
-    let number = expression_fault(x, room, func);
-    if number != 0 {
-        return Walk::Stop { number, place };
-    }
+    let (x, next) = due(table, at)?;
+    expression_leads(x, at, env)?;
     if left == 0 {
-        return Walk::Stop { number: 7, place };
+        return Err(at.refusal(7));
     }
-    let count = parts_in(x, params);
+    let count = parts_in(x, &env.params);
     if count == 0 {
-        return Walk::On(next);
+        return Ok(next);
     }
-    expressions(table, next, count, left - 1, room, func, params)
+    expressions(table, next, count, left - 1, env)
 }
 
 // 7: whether a statement lies no deeper than it may: there is depth left, and it is no ninth IF or FOR.
+#[tactic(auto, using(std::proofs::lemmas::Bool::Decides::nat_tests), unfolding(script::specs::Parse::nests, script::specs::Table::read_s))]
 fn nests(left: u32, round: Nesting, x: Record) -> bool
     ensures { result ≡ not (eqb left 0) && nests (nested round) (read_s x) }
 {
@@ -113,89 +73,66 @@ fn nests(left: u32, round: Nesting, x: Record) -> bool
 }
 
 // How many lie round a statement's parts.
+#[tactic(auto, using(std::proofs::lemmas::Bool::Decides::nat_tests), unfolding(script::specs::Parse::inside, script::specs::Parse::nests, script::specs::Table::read_s))]
 fn inside(round: Nesting, x: Record) -> Nesting
     requires { nests (nested round) (read_s x) ≡ true }
     ensures { nested result ≡ inside (nested round) (read_s x) }
 {
+    let mut inner = round;
     let kind = x.kind;
     match kind {
-        35 => Nesting {
-            ifs: round.ifs,
-            fors: round.fors + 1,
-        },
-        36 => Nesting {
-            ifs: round.ifs + 1,
-            fors: round.fors,
-        },
-        _ => round,
+        35 => {
+            inner.fors += 1;
+        }
+        36 => {
+            inner.ifs += 1;
+        }
+        _ => {}
     }
+    inner
 }
 
-// So many statements, one after another, each with the depth `left`.
+// So many statements, one after another, each with the depth `left`: the reader past them.
 #[cycle(statement_statements)]
+#[tactic(auto, using(crate::proofs::Descending::sequence_run, crate::proofs::Descending::run_more, crate::proofs::Descending::run_all))]
 pub(crate) fn statements(
     table: &[u32],
     at: Reader,
     count: u32,
     left: u32,
     round: Nesting,
-    room: Room,
-    func: u32,
-    params: &[u32; 16],
-) -> Walk
-    requires { func ≤ 16 }
-    ensures { result ≡ walk_of (sequence (parse_s left (nested round) (roomed room func params.now) table.now) count at.at) }
+    env: &Env,
+) -> Result<Reader, Refusal>
+    ensures { result ≡ walk_of (sequence (parse_s left (nested round) env.now table.now) count at.at) }
 {
     let mut here = at;
-    let mut i = 0u32;
-    while i < count {
-        match statement(table, here, left, round, room, func, params) {
-            Walk::On(next) => {
-                here = next;
-            }
-            Walk::Stop { number, place } => {
-                return Walk::Stop { number, place };
-            }
-        }
-        i += 1;
+    for i in 0..count {
+        here = statement(table, here, left, round, env)?;
     }
-    Walk::On(here)
+    Ok(here)
 }
 
 // The statement at the reader, which may hold others to the depth `left`, itself counted: its expressions, and then its statements.
 #[cycle(statement_statements)]
+#[tactic(auto, using(crate::proofs::Descending::statement_is, crate::proofs::Descending::sequence_none))]
 fn statement(
     table: &[u32],
     at: Reader,
     left: u32,
     round: Nesting,
-    room: Room,
-    func: u32,
-    params: &[u32; 16],
-) -> Walk
-    requires { func ≤ 16 }
-    ensures { result ≡ walk_of (parse_s left (nested round) (roomed room func params.now) table.now at.at) }
+    env: &Env,
+) -> Result<Reader, Refusal>
+    ensures { result ≡ walk_of (parse_s left (nested round) env.now table.now at.at) }
 {
-    let Read::Found(x, next) = at.next(table) else {
-        return ended(table);
-    };
-    let place = at.at;
-    let number = statement_fault(x, room);
-    if number != 0 {
-        return Walk::Stop { number, place };
-    }
+    let (x, next) = due(table, at)?;
+    statement_leads(x, at, env)?;
     if !nests(left, round, x) {
-        return Walk::Stop { number: 7, place };
+        return Err(at.refusal(7));
     }
-    match expressions(table, next, expressions_in(x), 16, room, func, params) {
-        Walk::On(after) => {
-            let count = statements_in(x);
-            if count == 0 {
-                return Walk::On(after);
-            }
-            let inner = inside(round, x);
-            statements(table, after, count, left - 1, inner, room, func, params)
-        }
-        Walk::Stop { number, place } => Walk::Stop { number, place },
+    let after = expressions(table, next, expressions_in(x), 16, env)?;
+    let count = statements_in(x);
+    if count == 0 {
+        return Ok(after);
     }
+    statements(table, after, count, left - 1, inside(round, x), env)
 }

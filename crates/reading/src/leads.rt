@@ -1,140 +1,147 @@
 // One record, tested where one of a class is due: its kind (2), its unused words (4), its fields (5), the lowest number first; and how many
 // parts follow it.
-ghost use Rattle.std.specs.Prelude.{◌≡◌, cond, List, ℕ, ◌≤◌, ◌<◌};
-ghost use Rattle.script.specs.Table.{read_e, read_s, expression, statement, program, array, function};
-ghost use Rattle.reading.specs.Structure.{roomed, fields_fault, record_fault, parts_in, expressions_in, statements_in};
+#![tactic(auto, using(std::proofs::lemmas::Bool::Decides::nat_tests), unfolding(crate::specs::Structure::due_of, crate::specs::Structure::leads, crate::specs::Structure::parts_in, crate::specs::Structure::expressions_in, crate::specs::Structure::statements_in, script::specs::Table::lead_by, script::specs::Table::program, script::specs::Table::array, script::specs::Table::function, script::specs::Table::expression, script::specs::Table::read_e, script::specs::Table::write_e, script::specs::Table::range_e, script::specs::Table::statement, script::specs::Table::read_s, script::specs::Table::write_s, script::specs::Table::range_s, word::specs::Records::same))]
+
+ghost use Rattle.std.specs.Prelude.{◌≡◌, cond, ◌≤◌, Ok};
+ghost use Rattle.word.specs.Refusals.{refuse};
+ghost use Rattle.word.specs.Reader.{read_at};
+ghost use Rattle.script.specs.Table.{read_e, read_s, expression, statement, program, array, function, lead_by};
 ghost use Rattle.script.specs.declared.Env.{Env};
+ghost use Rattle.reading.specs.Structure.{due_of, leads, parts_in, expressions_in, statements_in};
 
-use word::Record;
+use script::Env;
+use word::reader::Reader;
+use word::{Record, Refusal};
 
-// What the fields are tested against, beside the present function: how many slots and arrays there are.
-#[derive(Clone, Copy)]
-pub struct Room {
-    pub slots: u32,
-    pub arrays: u32,
+// The record that is due where the reader stands, with the reader past it. 3: the table ends early.
+pub fn due(table: &[u32], at: Reader) -> Result<(Record, Reader), Refusal>
+    ensures { result ≡ due_of table.now (read_at table.now at.at) }
+{
+    at.next(table).ok_or(Refusal {
+        number: 3,
+        place: table.len() / 4,
+    })
 }
 
-// The number of the first test that fails, or 0.
-fn unmet(blank: bool, range: bool) -> u32
-    ensures { result ≡ cond blank (cond range 0 5) 4 }
+// 2: the record is of no kind that is due.
+fn not_due(at: Reader) -> Result<(), Refusal>
+    ensures { result ≡ refuse 2 at.at }
+{
+    Err(at.refusal(2))
+}
+
+// 4 where a word is not as it must be, 5 where a field is out of its range.
+fn fields(at: Reader, blank: bool, range: bool) -> Result<(), Refusal>
+    ensures { result ≡ cond blank (cond range (Ok tt) (refuse 5 at.at)) (refuse 4 at.at) }
 {
     if !blank {
-        return 4;
+        return Err(at.refusal(4));
     }
     if !range {
-        return 5;
+        return Err(at.refusal(5));
     }
-    0
+    Ok(())
 }
 
-pub fn program_fault(x: Record) -> u32
-    ensures { (e : Env) → result ≡ record_fault program e x }
+pub fn program_leads(x: Record, at: Reader) -> Result<(), Refusal>
+    ensures { (e : Env) → result ≡ leads (lead_by program e x at.at) }
 {
     let kind = x.kind;
     match kind {
-        1 => unmet(x.r == 0, (1 <= x.p) & (x.p <= 16) & (x.q <= 8)),
-        _ => 2,
+        1 => fields(at, x.r == 0, (1 <= x.p) & (x.p <= 16) & (x.q <= 8)),
+        _ => not_due(at),
     }
 }
 
-pub fn array_fault(x: Record) -> u32
-    ensures { (e : Env) → result ≡ record_fault array e x }
+pub fn array_leads(x: Record, at: Reader) -> Result<(), Refusal>
+    ensures { (e : Env) → result ≡ leads (lead_by array e x at.at) }
 {
     let kind = x.kind;
     match kind {
-        2 => unmet((x.q == 0) & (x.r == 0), (1 <= x.p) & (x.p <= 4096)),
-        _ => 2,
+        2 => fields(at, (x.q == 0) & (x.r == 0), (1 <= x.p) & (x.p <= 4096)),
+        _ => not_due(at),
     }
 }
 
-pub fn function_fault(x: Record) -> u32
-    ensures { (e : Env) → result ≡ record_fault function e x }
+pub fn function_leads(x: Record, at: Reader) -> Result<(), Refusal>
+    ensures { (e : Env) → result ≡ leads (lead_by function e x at.at) }
 {
     let kind = x.kind;
     match kind {
-        3 => unmet(x.r == 0, (x.p <= 8) & (x.p <= x.q) & (x.q <= 32)),
-        _ => 2,
+        3 => fields(at, x.r == 0, (x.p <= 8) & (x.p <= x.q) & (x.q <= 32)),
+        _ => not_due(at),
     }
 }
 
 // The words of an expression's record.
-fn expression_fields(x: Record, room: Room, func: u32) -> u32
+fn expression_fields(x: Record, at: Reader, env: &Env) -> Result<(), Refusal>
     requires { (20 ≤ x.kind) × (x.kind ≤ 28) }
-    ensures { (params : List ℕ) → result ≡ fields_fault expression (roomed room func params) x }
+    ensures { result ≡ leads (lead_by expression env.now x at.at) }
 {
     let blank = (x.q == 0) & (x.r == 0);
     let kind = x.kind;
     match kind {
-        20 => unmet(blank, true),
-        21 => unmet((x.p == 0) & blank, true),
-        22 => unmet((x.p == 0) & blank, true),
-        23 => unmet(blank, x.p < room.slots),
-        24 => unmet(blank, x.p < room.arrays),
-        25 => unmet((x.p == 0) & blank, true),
-        26 => unmet((x.p == 0) & blank, true),
-        27 => unmet(blank, (1 <= x.p) & (x.p <= 15)),
-        _ => unmet(blank, x.p < func),
+        20 => fields(at, blank, true),
+        21 => fields(at, (x.p == 0) & blank, true),
+        22 => fields(at, (x.p == 0) & blank, true),
+        23 => fields(at, blank, x.p < env.slots),
+        24 => fields(at, blank, x.p < env.arrays),
+        25 => fields(at, (x.p == 0) & blank, true),
+        26 => fields(at, (x.p == 0) & blank, true),
+        27 => fields(at, blank, (1 <= x.p) & (x.p <= 15)),
+        _ => fields(at, blank, x.p < env.func),
     }
 }
 
-pub fn expression_fault(x: Record, room: Room, func: u32) -> u32
-    ensures { (params : List ℕ) → result ≡ record_fault expression (roomed room func params) x }
+pub fn expression_leads(x: Record, at: Reader, env: &Env) -> Result<(), Refusal>
+    ensures { result ≡ leads (lead_by expression env.now x at.at) }
 {
     let kind = x.kind;
     match kind {
-        20..=28 => expression_fields(x, room, func),
-        _ => 2,
+        20..=28 => expression_fields(x, at, env),
+        _ => not_due(at),
     }
 }
 
 // The words of a statement's record.
-fn statement_fields(x: Record, room: Room) -> u32
+fn statement_fields(x: Record, at: Reader, env: &Env) -> Result<(), Refusal>
     requires { (30 ≤ x.kind) × (x.kind ≤ 37) }
-    ensures { (func : ℕ) (params : List ℕ) → result ≡ fields_fault statement (roomed room func params) x }
+    ensures { result ≡ leads (lead_by statement env.now x at.at) }
 {
     let blank = (x.q == 0) & (x.r == 0);
     let kind = x.kind;
     match kind {
-        30 => unmet((x.p == 0) & blank, true),
-        31 => unmet(blank, (2 <= x.p) & (x.p <= 256)),
-        32 => unmet(blank, x.p < room.slots),
-        33 => unmet(blank, x.p < room.slots),
-        34 => unmet(blank, x.p < room.arrays),
-        35 => unmet(true, (x.p < room.slots) & (x.q <= x.r)),
-        36 => unmet((x.p == 0) & blank, true),
-        _ => unmet((x.p == 0) & blank, true),
+        30 => fields(at, (x.p == 0) & blank, true),
+        31 => fields(at, blank, (2 <= x.p) & (x.p <= 256)),
+        32 => fields(at, blank, x.p < env.slots),
+        33 => fields(at, blank, x.p < env.slots),
+        34 => fields(at, blank, x.p < env.arrays),
+        35 => fields(at, true, (x.p < env.slots) & (x.q <= x.r)),
+        36 => fields(at, (x.p == 0) & blank, true),
+        _ => fields(at, (x.p == 0) & blank, true),
     }
 }
 
-pub fn statement_fault(x: Record, room: Room) -> u32
-    ensures { (func : ℕ) (params : List ℕ) → result ≡ record_fault statement (roomed room func params) x }
+pub fn statement_leads(x: Record, at: Reader, env: &Env) -> Result<(), Refusal>
+    ensures { result ≡ leads (lead_by statement env.now x at.at) }
 {
     let kind = x.kind;
     match kind {
-        30..=37 => statement_fields(x, room),
-        _ => 2,
+        30..=37 => statement_fields(x, at, env),
+        _ => not_due(at),
     }
 }
 
 // How many expressions an expression's record is followed by.
-pub(crate) fn parts_in(x: Record, params: &[u32; 16]) -> u32
-    requires { (20 ≤ x.kind) × (x.kind ≤ 28) × (x.kind ≡ 28 → x.p < 16) }
+pub fn parts_in(x: Record, params: &[u32; 16]) -> u32
     ensures { result ≡ parts_in params.now (read_e x) }
 {
     let kind = x.kind;
     match kind {
-        20 => 0,
-        21 => 0,
-        22 => 0,
-        23 => 0,
-        24 => 1,
-        25 => 1,
-        26 => 1,
+        20..=23 => 0,
+        24..=26 => 1,
         27 => 2,
-        _ => {
-            let f = x.p as usize;
-            params[f]
-        }
+        _ => params.get(x.p as usize).copied().unwrap_or(0),
     }
 }
 
@@ -144,13 +151,8 @@ pub fn expressions_in(x: Record) -> u32
 {
     let kind = x.kind;
     match kind {
-        30 => 0,
-        31 => 0,
-        32 => 1,
-        33 => 1,
+        30 | 31 | 35 => 0,
         34 => 2,
-        35 => 0,
-        36 => 1,
         _ => 1,
     }
 }
@@ -161,11 +163,7 @@ pub fn statements_in(x: Record) -> u32
 {
     let kind = x.kind;
     match kind {
-        30 => 0,
         31 => x.p,
-        32 => 0,
-        33 => 0,
-        34 => 0,
         35 => 1,
         36 => 2,
         _ => 0,

@@ -1,112 +1,81 @@
 // The structure of a script table: PROGRAM, its arrays, its functions. Refusals 1 to 7.
 ghost use Rattle.std.specs.Prelude.{◌≡◌, ◌≤◌};
-ghost use Rattle.word.specs.Records.{sized};
 ghost use Rattle.script.specs.Parse.{nowhere, parse_funcs, parse_arrays, parse_program};
 ghost use Rattle.reading.specs.Structure.{walk_of, structured};
 
-use crate::descent::{Nesting, Walk, ended, statements};
-use crate::leads::{Room, array_fault, function_fault, program_fault};
-use script::First;
-use word::reader::{Read, Reader};
+use crate::descent::{Nesting, statements};
+use crate::leads::{array_leads, due, function_leads, program_leads};
+use script::Env;
+use word::reader::Reader;
+use word::{Refusal, sized};
+
+const OUTERMOST: Nesting = Nesting { ifs: 0, fors: 0 };
 
 // So many ARRAY records.
-fn arrays(table: &[u32], at: Reader, count: u32) -> Walk
+#[tactic(auto, using(crate::proofs::Programs::arrays_more, crate::proofs::Programs::arrays_all))]
+fn arrays(table: &[u32], at: Reader, count: u32) -> Result<Reader, Refusal>
     ensures { result ≡ walk_of (parse_arrays count table.now at.at) }
 {
     let mut here = at;
-    let mut i = 0u32;
-    while i < count {
-        let Read::Found(x, next) = here.next(table) else {
-            return ended(table);
-        };
-        let place = here.at;
-        let number = array_fault(x);
-        if number != 0 {
-            return Walk::Stop { number, place };
-        }
+    for i in 0..count {
+        let (x, next) = due(table, here)?;
+        array_leads(x, here)?;
         here = next;
-        i += 1;
     }
-    Walk::On(here)
+    Ok(here)
 }
 
 // So many functions, each FUNC followed by one statement. Its parameters are known to those after it.
-fn functions(table: &[u32], at: Reader, count: u32, arrays: u32) -> Walk
+#[tactic(auto, using(crate::proofs::Programs::functions_more, crate::proofs::Programs::functions_all), unfolding(script::specs::Parse::entered, script::specs::Parse::passed, script::specs::Table::function))]
+fn functions(table: &[u32], at: Reader, count: u32, arrays: u32) -> Result<Reader, Refusal>
     requires { count ≤ 16 }
     ensures { result ≡ walk_of (parse_funcs count (nowhere arrays) table.now at.at) }
 {
-    let params = &mut [0u32; 16];
+    let mut env = Env {
+        slots: 0,
+        arrays,
+        func: 0,
+        params: [0; 16],
+    };
     let mut here = at;
-    let mut func = 0u32;
-    while func < count {
-        let Read::Found(x, next) = here.next(table) else {
-            return ended(table);
-        };
-        let place = here.at;
-        let number = function_fault(x);
-        if number != 0 {
-            return Walk::Stop { number, place };
-        }
-        let round = Nesting { ifs: 0, fors: 0 };
-        let room = Room { slots: x.q, arrays };
-        match statements(table, next, 1, 16, round, room, func, params) {
-            Walk::On(after) => {
-                here = after;
-            }
-            Walk::Stop { number, place } => {
-                return Walk::Stop { number, place };
-            }
-        }
-        let f = func as usize;
-        params[f] = x.p;
-        func += 1;
+    for func in 0..count {
+        let (x, next) = due(table, here)?;
+        function_leads(x, here)?;
+        env.slots = x.q;
+        here = statements(table, next, 1, 16, OUTERMOST, &env)?;
+        env.slots = 0;
+        env.func = func + 1;
+        env.params[func as usize] = x.p;
     }
-    Walk::On(here)
+    Ok(here)
 }
 
 // PROGRAM, its arrays, its functions.
-fn program(table: &[u32]) -> Walk
+#[tactic(auto, using(crate::proofs::Programs::program_is))]
+fn program(table: &[u32]) -> Result<Reader, Refusal>
     ensures { result ≡ walk_of (parse_program table.now) }
 {
-    let Read::Found(x, next) = Reader::new().next(table) else {
-        return ended(table);
-    };
-    let number = program_fault(x);
-    if number != 0 {
-        return Walk::Stop { number, place: 0 };
-    }
-    match arrays(table, next, x.q) {
-        Walk::On(after) => functions(table, after, x.p, x.q),
-        Walk::Stop { number, place } => Walk::Stop { number, place },
-    }
-}
-
-// 1: there are whole records, one at least and 4096 at most.
-fn sized(n: usize) -> bool
-    ensures { result ≡ sized 4096 n }
-{
-    (n != 0) & ((n % 4 == 0) & (n / 4 <= 4096))
+    let start = Reader::new();
+    let (x, next) = due(table, start)?;
+    program_leads(x, start)?;
+    let after = arrays(table, next, x.q)?;
+    functions(table, after, x.p, x.q)
 }
 
 // The first record at fault, 1 to 7.
-pub fn structure(table: &[u32]) -> First
+#[tactic(auto, using(std::proofs::lemmas::Bool::Decides::nat_tests, crate::proofs::Programs::stage_is))]
+pub fn structure(table: &[u32]) -> Result<(), Refusal>
     ensures { result ≡ structured table.now }
 {
-    if !sized(table.len()) {
-        return First::Fault {
+    if !sized(4096, table.len()) {
+        return Err(Refusal {
             number: 1,
             place: 0,
-        };
+        });
     }
-    match program(table) {
-        Walk::On(end) => {
-            let place = end.at;
-            if place < table.len() / 4 {
-                First::Fault { number: 6, place }
-            } else {
-                First::Clean
-            }
-        }
-        Walk::Stop { number, place } => First::Fault { number, place },
+    let end = program(table)?;
+    if end.at < table.len() / 4 {
+        return Err(end.refusal(6));
     }
+    Ok(())
 }

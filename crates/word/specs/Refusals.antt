@@ -6,5 +6,14 @@ use Rattle.word.specs.declared.Refusal.{Refusal}
 abbrev pub OrRefused : Type 0 → Type 0
 OrRefused A = Result A Refusal
 
+abbrev pub refusal : ℕ → ℕ → Refusal
+refusal number place = record { number = number; place = place }
+
 abbrev pub refuse : {A : Type 0} → ℕ → ℕ → OrRefused A
-refuse number place = Err (record { number = number; place = place })
+refuse number place = Err (refusal number place)
+
+-- on with what was asked for; a refusal is the whole's
+infixl 10 ◌>>=◌
+abbrev pub ◌>>=◌ : {A B : Type 0} → OrRefused A → (A → OrRefused B) → OrRefused B
+(Ok a) >>= f = f a
+(Err r) >>= f = Err r

@@ -1,8 +1,9 @@
 // The reader: a cursor that moves over a list of words by whole records and hands itself back.
 ghost use Rattle.std.specs.Prelude.{◌≡◌};
 ghost use Rattle.word.specs.Reader.{read_at};
+ghost use Rattle.word.specs.Refusals.{refusal};
 
-use crate::Record;
+use crate::{Record, Refusal};
 
 // The record that it stands at.
 #[derive(Clone, Copy, Debug, PartialEq, Eq)]
@@ -34,6 +35,16 @@ impl Reader {
             Some((record, Reader { at: at + 1 }))
         } else {
             None
+        }
+    }
+
+    // With this number, at the record that it stands at.
+    pub fn refusal(self, number: u32) -> Refusal
+        ensures { result ≡ refusal number self.at }
+    {
+        Refusal {
+            number,
+            place: self.at,
         }
     }
 }

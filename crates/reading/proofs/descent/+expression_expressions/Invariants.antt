@@ -1,9 +1,8 @@
--- The proof of the cycle of calls {expression, expressions}. `expression` calls `expressions` with one less left, and that calls `expression` with as
--- much: so twice what is left, and one more for `expressions`, falls. In the loop what is left of the run is the whole run. Assumes nothing.
-use Prim.Native.Nat.{◌+◌, ◌-◌, ◌≤◌}
-use mathlib.Core.Path.{◌≡◌}
+-- The cycle of calls {expression, expressions}. `expression` calls `expressions` with one less left, and that calls `expression` with as much: so twice
+-- what is left, and one more for `expressions`, falls. In the loop what is left of the run is the whole run. Assumes nothing.
+use Rattle.std.proofs.Common.{◌≡◌, ◌+◌, ◌-◌}
 use Rattle.script.specs.Parse.{parse_e}
-use Rattle.reading.specs.Structure.{roomed, walk_of}
+use Rattle.reading.specs.Structure.{walk_of}
 use Rattle.reading.proofs.Descending.{run}
 use Rattle.reading.proofs.descent.+expression_expressions.Given as goal
 
@@ -15,7 +14,4 @@ decreases-expressions l = l.left + l.left + 1
 
 abbrev pub invariant-expressions-loop-i : goal.invariant-expressions-loop-i
 invariant-expressions-loop-i l =
-    (l.i ≤ l.count) × (run (λ j. walk_of (parse_e l.left (roomed l.room l.func l.params) l.table j)) (l.count - l.i) l.here.at ≡ run (λ j. walk_of (parse_e l.left (roomed l.room l.func l.params) l.table j)) l.count l.initial.here.at)
-
-abbrev pub decreases-expressions-loop-i : goal.decreases-expressions-loop-i
-decreases-expressions-loop-i l = l.count - l.i
+    run (λ j. walk_of (parse_e l.left l.env l.table j)) (l.count - l.i) l.here.at ≡ run (λ j. walk_of (parse_e l.left l.env l.table j)) l.count l.initial.here.at

@@ -1,0 +1,16 @@
+-- `reading::leads::function_leads` meets its contract: its kind makes the definition compute. Assumes nothing.
+use Rattle.std.proofs.Common.{arith}
+use Rattle.std.proofs.lemmas.Grind.{common_steps}
+use Rattle.std.proofs.lemmas.Bool.Decides.{nat_tests}
+use Rattle.word.specs.Records.{same}
+use Rattle.script.specs.Table.{function, lead_by}
+use Rattle.reading.specs.Structure.{leads}
+use Rattle.reading.proofs.leads.function_leads.Goals as goal
+
+pub returns-in-3 : goal.returns-in-3
+unfolding leads lead_by same function
+returns-in-3 c = λ e. grind (arith, nat_tests)
+
+pub returns-in_default : goal.returns-in_default
+unfolding leads lead_by function
+returns-in_default c = λ e. grind (arith, nat_tests)

@@ -18,8 +18,8 @@ use Rattle.script.specs.Parse.{parsed, entered, read_table}
 use Rattle.script.specs.Written.{count_s, list_e, list_s, list_ss, list_funcs, depth_s, depth_ss, head_of, Inside, Insides, InFunc}
 use Rattle.script.specs.Stage.{or_else, Walked, goes, stops, after, onward, refuse_if, over_program}
 use Rattle.script.specs.Scope.{Names, settable, scope_e, declare, close, scope_s, scope_ss, parameters, scope_f}
-use Rattle.scoping.specs.Passes.{At, come, statements_of, nested, walk, then_first}
-use Rattle.scoping.specs.Scoped.{seen_of, names_of, declarable, own, declares, shown, closed_by, leaves, entering, scoping, parameters_of, scoped_func, scoped}
+use Rattle.scoping.specs.Passes.{At, come, statements_of, closing, nested, walk, then_first}
+use Rattle.scoping.specs.Scoped.{seen_of, names_of, declarable, own, declares, shown, closed_by, entering, scoping, parameters_of, scoped_func, scoped}
 use Rattle.script.specs.declared.Env.{Env}
 use Rattle.script.specs.Stage.{First}
 use Rattle.scoping.specs.declared.scope.Slots.{Slots}
@@ -63,8 +63,8 @@ unfolding names_of closed_by seen_of
 closed_is kind a b e = rw e refl
 
 close_together : {end : ℕ} {w : Walked (At Slots)} {r : Walked Names} (kind : ℕ) (a : Slots) → eqb kind 31 ≡ false
-    → Together (λ b. names_of b) end w r → Together (λ b. names_of b) end (leaves kind a w) (close (names_of a) r)
-unfolding leaves close
+    → Together (λ b. names_of b) end w r → Together (λ b. names_of b) end (closing (closed_by kind a) w) (close (names_of a) r)
+unfolding closing close
 close_together kind a k (both_go {a = b} e) = both_go (closed_is kind a b k ∙ ap (λ (n : Names). record { seen = (names_of a).seen; declared = n.declared }) e)
 close_together kind a k both_stop = both_stop
 
@@ -112,8 +112,8 @@ close_same n (goes m) g = close_by (record { seen = n.seen; declared = m.declare
 close_same n (stops number place) g = refl
 
 -- SEQ is no scope
-leaves_seq : (a : Slots) (w : Walked (At Slots)) → leaves 31 a w ≡ w
-unfolding leaves closed_by
+leaves_seq : (a : Slots) (w : Walked (At Slots)) → closing (closed_by 31 a) w ≡ w
+unfolding closing closed_by
 leaves_seq a (goes b) = refl
 leaves_seq a (stops number place) = refl
 
@@ -132,9 +132,9 @@ module _ (t : List ℕ) (v : Env) (few : v.slots ≤ 32) where
     stmt_goes (seq ss) left at a rest is d i h =
         let x = rec 31 (count_s ss) 0 0 in
         let (w, on) = enters (scoping t) t a x left at is (omega arith) in
-        let e = w ∙ ap (nested (walk (scoping t) t (left - 1)) (leaves 31 a) (count_s ss)) (enter_none t a at x (list_ss ss rest) (halts_stmts ss rest h) on) in
+        let e = w ∙ ap (nested (walk (scoping t) t (left - 1)) (closing (closed_by 31 a)) (count_s ss)) (enter_none t a at x (list_ss ss rest) (halts_stmts ss rest h) on) in
         let q : at + 1 + size_ss ss ≡ at + suc (size_ss ss) = omega arith in
-        go_to q (go_as e refl (stmts_go ss (left - 1) (at + 1) rest (leaves 31 a) on (omega arith) i.2 h (both_go refl) (leaves_seq a)))
+        go_to q (go_as e refl (stmts_go ss (left - 1) (at + 1) rest (closing (closed_by 31 a)) on (omega arith) i.2 h (both_go refl) (leaves_seq a)))
     stmt_goes (def x e) left at a rest is d i h =
         let (w, on) = enters (scoping t) t a (rec 32 x 0 0) left at is d in
         let q : at + 1 + size_e e ≡ at + suc (size_e e) = omega arith in
@@ -153,7 +153,7 @@ module _ (t : List ℕ) (v : Env) (few : v.slots ≤ 32) where
     stmt_goes (for x l r s) left at a rest is d i h =
         let y = rec 35 x l r in
         let (w, on) = enters (scoping t) t a y left at is (omega arith) in
-        let f : At Slots → Walked (At Slots) = λ b. leaves 35 a (walk (scoping t) t (left - 1) b.at b.state) in
+        let f : At Slots → Walked (At Slots) = λ b. closing (closed_by 35 a) (walk (scoping t) t (left - 1) b.at b.state) in
         let e = w ∙ ap (λ (z : Walked (At Slots)). onward z f) (enter_none t a at y (list_s s rest) (halts_stmt s rest) on) ∙ onward_after (declarable (has a.declared x) at) _ f in
         let q : at + 1 + size_s s ≡ at + suc (size_s s) = omega arith in
         let small : x < 32 = omega (arith, i.0) in
@@ -166,7 +166,7 @@ module _ (t : List ℕ) (v : Env) (few : v.slots ≤ 32) where
         let m = at + 1 + size_e c in
         let k = m + size_s s in
         let (w, on) = enters (scoping t) t a y left at is (omega arith) in
-        let f : At Slots → Walked (At Slots) = λ b. leaves 36 a (walk (scoping t) t (left - 1) b.at b.state) in
+        let f : At Slots → Walked (At Slots) = λ b. closing (closed_by 36 a) (walk (scoping t) t (left - 1) b.at b.state) in
         let cond = scope_e (scope_of a) (at + 1) c in
         let e = w ∙ ap (λ (z : Walked (At Slots)). onward (onward z f) f) (enter_one t a at y (list_s s (list_s u rest)) (halts_stmt s (list_s u rest)) c on) ∙ ap (λ (z : Walked (At Slots)). onward z f) (onward_after cond _ f) ∙ onward_after cond _ f in
         let q : k + size_s u ≡ at + suc (size_e c + (size_s s + size_s u)) = omega arith in

@@ -1,4 +1,4 @@
--- The scan over a statement's expressions: its turns, as the code takes them; and that over a tree's records it says what `scope_e` says of the tree.
+-- The scan over a statement's expressions: over a tree's records it says what `scope_e` says of the tree.
 -- Assumes nothing.
 use Prim.Native.Nat.{ℕ, ◌+◌, ◌≤◌, ◌<◌}
 use native.Mathlib.Omega.{arith}
@@ -17,26 +17,6 @@ use Rattle.script.specs.Scope.{readable, scope_e, scope_es}
 use Rattle.scoping.specs.Scoped.{seen_of, hides, seek_at, seek}
 use Rattle.scoping.specs.declared.scope.Slots.{Slots}
 use Rattle.scoping.proofs.Together.{after_after}
-
--- ---- the turns
-module _ (a : Slots) (at : ℕ) (x : Record) (xs : List Record) where
-  pub seek_stop : 20 ≤ x.kind → x.kind < 29 → hides a x ≡ true → seek a at (x ∷ xs) ≡ stops 8 at
-  unfolding seek seek_at
-  seek_stop low high h = rw (le-leb 20 x.kind low, le-leb x.kind 28 (omega arith), h) refl
-
-  pub seek_on : 20 ≤ x.kind → x.kind < 29 → hides a x ≡ false → seek a at (x ∷ xs) ≡ seek a (at + 1) xs
-  unfolding seek seek_at
-  seek_on low high h = rw (le-leb 20 x.kind low, le-leb x.kind 28 (omega arith), h) refl
-
-  pub seek_low : x.kind < 20 → seek a at (x ∷ xs) ≡ goes at
-  unfolding seek seek_at
-  seek_low low = rw (lt-leb 20 x.kind low) refl
-
-  pub seek_high : 28 < x.kind → seek a at (x ∷ xs) ≡ goes at
-  unfolding seek seek_at
-  seek_high high =
-      let low : 20 ≤ x.kind = omega arith in
-      rw (le-leb 20 x.kind low, lt-leb x.kind 28 high) refl
 
 -- ---- over a tree
 shift : (a : Slots) {i j : ℕ} (xs : List Record) → i ≡ j → seek a i xs ≡ seek a j xs

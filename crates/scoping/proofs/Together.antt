@@ -11,7 +11,7 @@ use Rattle.script.specs.Tree.{Func, Program, size_f}
 use Rattle.script.specs.Parse.{parsed, passed, nowhere, read_table}
 use Rattle.script.specs.Written.{list_s, list_funcs, head_of, InFunc, InFuncs, none_left, one_more}
 use Rattle.script.specs.Stage.{or_else, Walked, goes, stops, after, onward, ended, each_func, first_func, over_program}
-use Rattle.scoping.specs.Passes.{At, come, statements_of, Turn, nested, walk, Over, then_first, func_at, funcs_from, staged}
+use Rattle.scoping.specs.Passes.{At, come, statements_of, Turn, closing, nested, walk, Over, then_first, func_at, funcs_from, staged}
 use Rattle.script.specs.declared.Env.{Env}
 use Rattle.script.specs.Stage.{First}
 use Rattle.script.proofs.Leading.{from}
@@ -78,7 +78,7 @@ or_assoc (Err r) b c = refl
 -- ---- a statement's record
 module _ {A : Type 0} (T : Turn A) (t : List ℕ) (a : A) where
   pub enters : (x : Record) (left at : ℕ) {rest : List Record} → from t at ≡ x ∷ rest → 1 ≤ left
-      → (walk T t left at a ≡ nested (walk T t (left - 1)) (T.leave x.kind a) (statements_of x) (T.enter a at x)) × (from t (at + 1) ≡ rest)
+      → (walk T t left at a ≡ nested (walk T t (left - 1)) (closing (T.leave x.kind a)) (statements_of x) (T.enter a at x)) × (from t (at + 1) ≡ rest)
   enters x left at is some =
       let (read, on) = finds t at is in
       (walk_found T t at a left x _ some read, on)

@@ -8,6 +8,9 @@ use Rattle.word.specs.Reader.{Read}
 use Rattle.std.specs.Prelude.{Some, None}
 use Rattle.script.specs.Stage.{clean, fault, Walked, goes, stops, onward}
 use Rattle.script.specs.Stage.{First}
+use Rattle.std.specs.Prelude.{Ok}
+use Rattle.word.specs.Refusals.{OrRefused, refuse}
+use Rattle.word.specs.declared.reader.Reader.{Reader}
 use Rattle.scoping.specs.declared.passes.Heading.{Heading}
 
 -- what a stage carries, and the record that it has come to
@@ -61,8 +64,15 @@ statements_of x = cond (eqb x.kind 31) x.p (cond (eqb x.kind 35) 1 (cond (eqb x.
 pub record Turn (A : Type 0) : Type 0 where
   -- the record at a place, with what is carried there
   pub enter : A → ℕ → Record → Walked (At A)
-  -- a statement within one of this kind, before which so much was carried
-  pub leave : ℕ → A → Walked (At A) → Walked (At A)
+  -- after a statement within one of this kind: by what was carried before the one and after the other
+  pub leave : ℕ → A → A → A
+
+abbrev pub turn : {A : Type 0} → (A → ℕ → Record → Walked (At A)) → (ℕ → A → A → A) → Turn A
+turn enter leave = record { enter = enter; leave = leave }
+
+unfoldable pub closing : {A : Type 0} → (A → A) → Walked (At A) → Walked (At A)
+closing g (goes b) = come b.at (g b.state)
+closing g (stops number place) = stops number place
 
 -- so many statements, one after another
 unfoldable pub nested : {A : Type 0} → (ℕ → A → Walked (At A)) → (Walked (At A) → Walked (At A)) → ℕ → Walked (At A) → Walked (At A)
@@ -70,13 +80,22 @@ nested f leave zero w = w
 nested f leave (suc n) w = nested f leave n (onward w (λ b. leave (f b.at b.state)))
 
 unfoldable pub enter_by : {A : Type 0} → Turn A → (ℕ → A → Walked (At A)) → ℕ → A → Read → Walked (At A)
-enter_by T f at a (Some (x, next)) = nested f (T.leave x.kind a) (statements_of x) (T.enter a at x)
+enter_by T f at a (Some (x, next)) = nested f (closing (T.leave x.kind a)) (statements_of x) (T.enter a at x)
 enter_by T f at a None = come at a
 
 -- the statement at a record, to the depth that is left
 unfoldable pub walk : {A : Type 0} → Turn A → List ℕ → ℕ → ℕ → A → Walked (At A)
 walk T t zero at a = come at a
 walk T t (suc left) at a = enter_by T (walk T t left) at a (read_at t at)
+
+-- ---- the code's answers: the reader past what was walked, with what is carried
+unfoldable pub answered : {A : Type 0} → Walked (At A) → OrRefused (Reader × A)
+answered (goes b) = Ok (record { at = b.at }, b.state)
+answered (stops number place) = refuse number place
+
+unfoldable pub past : Walked ℕ → OrRefused Reader
+past (goes at) = Ok (record { at = at })
+past (stops number place) = refuse number place
 
 -- ---- functions
 -- of a function by its FUNC: the record after its statement; and what is noted of it for the later ones

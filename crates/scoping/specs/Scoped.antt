@@ -8,13 +8,9 @@ use Rattle.word.specs.Sets.{has, put, below}
 use Rattle.word.specs.declared.Record.{Record}
 use Rattle.script.specs.Stage.{clean, fault, Walked, goes, stops, after, onward}
 use Rattle.script.specs.Scope.{Names, settable}
-use Rattle.scoping.specs.Passes.{At, come, Turn, walk, Over, staged}
+use Rattle.scoping.specs.Passes.{At, come, Turn, turn, walk, Over, staged}
 use Rattle.script.specs.Stage.{First}
 use Rattle.scoping.specs.declared.scope.Slots.{Slots}
-use Rattle.scoping.specs.declared.scope.Seek.{Seek}
-use Rattle.scoping.specs.declared.scope.Seek.TheVariants as sought
-use Rattle.scoping.specs.declared.scope.Walk.{Walk}
-use Rattle.scoping.specs.declared.scope.Walk.TheVariants as walks
 
 -- ---- the sets as names
 unfoldable pub seen_of : Slots → ℕ → Seen
@@ -62,15 +58,11 @@ shown a x = cond (eqb x.kind 32) (declares a x.p false) (cond (eqb x.kind 35) (d
 unfoldable pub closed_by : ℕ → Slots → Slots → Slots
 closed_by kind a b = cond (eqb kind 31) b (record { defined = a.defined; fixed = a.fixed; declared = b.declared })
 
-unfoldable pub leaves : ℕ → Slots → Walked (At Slots) → Walked (At Slots)
-leaves kind a (goes b) = come b.at (closed_by kind a b.state)
-leaves kind a (stops number place) = stops number place
-
 unfoldable pub entering : List ℕ → Slots → ℕ → Record → Walked (At Slots)
 entering t a at x = after (own a x at) (onward (seek a (at + 1) (drop (at + 1) (records_of t))) (λ e. come e (shown a x)))
 
 unfoldable pub scoping : List ℕ → Turn Slots
-scoping t = record { enter = entering t; leave = leaves }
+scoping t = turn (entering t) closed_by
 
 -- ---- functions
 unfoldable pub parameters_of : ℕ → Slots
@@ -82,16 +74,3 @@ scoped_func t =
 
 unfoldable pub scoped : List ℕ → First
 scoped t = staged (scoped_func t) t tt
-
--- ---- the code's answers
-unfoldable pub seek_of : Walked ℕ → Seek
-seek_of (goes at) = sought.Past (record { at = at })
-seek_of (stops number place) = sought.Stop number place
-
-unfoldable pub walk_of : Walked (At Slots) → Walk
-walk_of (goes b) = walks.On (record { at = b.at }) b.state
-walk_of (stops number place) = walks.Stop number place
-
-unfoldable pub walked_of : Walk → Walked (At Slots)
-walked_of (walks.On at slots) = come at.at slots
-walked_of (walks.Stop number place) = stops number place

@@ -1,12 +1,13 @@
 // What the later stages share: where the functions begin, how many parts a record has, how many parameters each function has, the first of two
 // faults, and an operator's type. Assumes nothing of the records.
+#![tactic(auto, using(std::proofs::lemmas::Bool::Decides::nat_tests), unfolding(script::specs::Stage::or_else, crate::specs::Passes::heading, crate::specs::Passes::heading_of, crate::specs::Passes::noted, crate::specs::Passes::statements_of, crate::specs::Passes::expressions_of, crate::specs::Passes::arity_of, crate::specs::Passes::params_of))]
+
 ghost use Rattle.std.specs.Prelude.{◌≡◌};
 ghost use Rattle.script.specs.Stage.{or_else};
 ghost use Rattle.scoping.specs.Passes.{heading, noted, statements_of, expressions_of, arity_of};
 
-use script::First;
-use word::Record;
-use word::reader::{Read, Reader};
+use word::reader::Reader;
+use word::{Record, Refusal};
 
 // What PROGRAM says: how many functions there are, and where the first one begins, after the arrays.
 #[derive(Clone, Copy)]
@@ -20,13 +21,13 @@ pub fn program(table: &[u32]) -> Heading
     ensures { result ≡ heading table.now }
 {
     match Reader::new().next(table) {
-        Read::Found(x, _) => Heading {
+        Some((x, _)) => Heading {
             functions: x.p,
             first: Reader {
                 at: 1 + x.q as usize,
             },
         },
-        Read::End => Heading {
+        None => Heading {
             functions: 0,
             first: Reader { at: 0 },
         },
@@ -51,11 +52,8 @@ pub fn expressions(kind: u32) -> u32
     ensures { result ≡ expressions_of kind }
 {
     match kind {
-        32 => 1,
-        33 => 1,
+        32 | 33 | 36 | 37 => 1,
         34 => 2,
-        36 => 1,
-        37 => 1,
         _ => 0,
     }
 }
@@ -66,14 +64,9 @@ pub fn arity(params: &[u32; 16], x: Record) -> u32
 {
     let kind = x.kind;
     match kind {
-        24 => 1,
-        25 => 1,
-        26 => 1,
+        24..=26 => 1,
         27 => 2,
-        28 => {
-            let f = x.p as usize;
-            if f < 16 { params[f] } else { 0 }
-        }
+        28 => params.get(x.p as usize).copied().unwrap_or(0),
         _ => 0,
     }
 }
@@ -87,11 +80,9 @@ pub fn note(params: &mut [u32; 16], func: usize, count: u32)
     }
 }
 
-pub fn or_else(a: First, b: First) -> First
+// The first of two faults.
+pub fn or_else(a: Result<(), Refusal>, b: Result<(), Refusal>) -> Result<(), Refusal>
     ensures { result ≡ or_else a b }
 {
-    match a {
-        First::Clean => b,
-        First::Fault { number, place } => First::Fault { number, place },
-    }
+    a.and(b)
 }

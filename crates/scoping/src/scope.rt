@@ -1,252 +1,190 @@
-// Scope: refusals 8 and 9. A recursive descent over the statements, the depth that is left falling at each nested one; a statement's expressions are the
-// records of kinds 20 to 28 that follow it, whatever their shape. Assumes nothing of the table; what it says is meant of one that was read.
-ghost use Rattle.std.specs.Prelude.{◌≡◌, ◌+◌, drop};
+// Scope: refusals 8 and 9. A statement's expressions are the records of kinds 20 to 28 that follow it, whatever their shape. Assumes nothing of the table;
+// what it says is meant of one that was read.
+#![tactic(auto, using(std::proofs::lemmas::Bool::Decides::nat_tests), unfolding(word::specs::Slots::here, script::specs::Stage::after, script::specs::Stage::onward, script::specs::Scope::settable, crate::specs::Passes::past, crate::specs::Passes::answered, crate::specs::Scoped::seen_of, crate::specs::Scoped::hides, crate::specs::Scoped::declarable, crate::specs::Scoped::own, crate::specs::Scoped::declares, crate::specs::Scoped::shown, crate::specs::Scoped::closed_by, crate::specs::Scoped::entering, crate::specs::Scoped::scoping, crate::specs::Scoped::parameters_of))]
+
+ghost use Rattle.std.specs.Prelude.{◌≡◌, drop};
 ghost use Rattle.word.specs.Records.{records_of};
 ghost use Rattle.word.specs.Sets.{has};
 ghost use Rattle.script.specs.Scope.{settable};
-ghost use Rattle.scoping.specs.Passes.{walk, funcs_from};
-ghost use Rattle.scoping.specs.Scoped.{seen_of, hides, seek, declarable, own, declares, shown, leaves, entering, scoping, parameters_of, scoped_func, scoped, seek_of, walk_of, walked_of};
+ghost use Rattle.scoping.specs.Passes.{funcs_from, past};
+ghost use Rattle.scoping.specs.Scoped.{seen_of, hides, seek, declarable, own, declares, shown, closed_by, entering, parameters_of, scoped_func, scoped};
 
-use crate::passes::{program, statements};
-use script::First;
-use word::Record;
-use word::reader::{Read, Reader};
+use crate::passes::program;
+use crate::walk::{Stage, statement};
+use word::reader::Reader;
 use word::sets::{below, has, put};
+use word::{Record, Refusal};
 
 // What is visible, as a DEF's slot or as a parameter or a loop's, and which slots were declared so far.
-#[derive(Clone, Copy)]
+#[derive(Clone, Copy, Debug, PartialEq, Eq)]
 pub struct Slots {
     pub defined: u32,
     pub fixed: u32,
     pub declared: u32,
 }
 
-// The cursor past a statement's expressions; or the first fault in them.
-#[derive(Clone, Copy)]
-pub enum Seek {
-    Past(Reader),
-    Stop { number: u32, place: usize },
-}
+impl Slots {
+    // Before a function's statement: its parameters.
+    fn parameters(p: u32) -> Slots
+        ensures { result ≡ parameters_of p }
+    {
+        let fixed = below(p);
+        Slots {
+            defined: 0,
+            fixed,
+            declared: fixed,
+        }
+    }
 
-// The cursor past a statement, with the slots after it; or the first fault in it.
-#[derive(Clone, Copy)]
-pub enum Walk {
-    On { at: Reader, slots: Slots },
-    Stop { number: u32, place: usize },
-}
+    // Whether the record is a VAR of a slot that is not visible.
+    fn hides(self, x: Record) -> bool
+        ensures { result ≡ hides self x }
+    {
+        if x.kind == 23 {
+            !(has(self.defined, x.p) | has(self.fixed, x.p))
+        } else {
+            false
+        }
+    }
 
-// Whether the record is a VAR of a slot that is not visible.
-fn hides(slots: Slots, x: Record) -> bool
-    ensures { result ≡ hides slots x }
-{
-    if x.kind == 23 {
-        !(has(slots.defined, x.p) | has(slots.fixed, x.p))
-    } else {
-        false
+    // 8: a slot is declared once at most.
+    fn declarable(self, x: u32, at: Reader) -> Result<(), Refusal>
+        ensures { result ≡ declarable (has self.declared x) at.at }
+    {
+        if has(self.declared, x) {
+            return Err(at.refusal(8));
+        }
+        Ok(())
+    }
+
+    // 8 if it is not visible, 9 if it is a parameter or a loop's.
+    fn settable(self, x: u32, at: Reader) -> Result<(), Refusal>
+        ensures { result ≡ settable (seen_of self x) at.at }
+    {
+        if has(self.defined, x) {
+            return Ok(());
+        }
+        if has(self.fixed, x) {
+            return Err(at.refusal(9));
+        }
+        Err(at.refusal(8))
+    }
+
+    // The fault of a statement's record by itself, which comes before its expressions'.
+    fn own(self, x: Record, at: Reader) -> Result<(), Refusal>
+        ensures { result ≡ own self x at.at }
+    {
+        let kind = x.kind;
+        match kind {
+            32 => self.declarable(x.p, at),
+            33 => self.settable(x.p, at),
+            35 => self.declarable(x.p, at),
+            _ => Ok(()),
+        }
+    }
+
+    fn declares(self, x: u32, in_loop: bool) -> Slots
+        ensures { result ≡ declares self x in_loop }
+    {
+        Slots {
+            defined: put(self.defined, x, !in_loop),
+            fixed: put(self.fixed, x, in_loop),
+            declared: put(self.declared, x, true),
+        }
+    }
+
+    // A DEF's slot is visible after its expression, a FOR's in the statement that follows.
+    fn shown(self, x: Record) -> Slots
+        ensures { result ≡ shown self x }
+    {
+        let kind = x.kind;
+        match kind {
+            32 => self.declares(x.p, false),
+            35 => self.declares(x.p, true),
+            _ => self,
+        }
     }
 }
 
 // From the cursor on, the first record that is no expression's.
-fn expressions(table: &[u32], start: Reader, slots: Slots) -> Seek
-    ensures { result ≡ seek_of (seek slots start.at (drop start.at (records_of table.now))) }
+#[tactic(auto, using(crate::proofs::ScopeSteps::seek_over))]
+fn expressions(table: &[u32], start: Reader, slots: Slots) -> Result<Reader, Refusal>
+    ensures { result ≡ past (seek slots start.at (drop start.at (records_of table.now))) }
 {
     let mut at = start;
-    while let Read::Found(x, next) = at.next(table) {
+    while let Some((x, next)) = at.next(table) {
         let kind = x.kind;
         match kind {
             20..=28 => {
-                if hides(slots, x) {
-                    return Seek::Stop {
-                        number: 8,
-                        place: at.at,
-                    };
+                if slots.hides(x) {
+                    return Err(at.refusal(8));
                 }
             }
             _ => {
-                return Seek::Past(at);
+                return Ok(at);
             }
         }
         at = next;
     }
-    Seek::Past(at)
+    Ok(at)
 }
 
-// 8: a slot is declared once at most.
-fn declarable(slots: Slots, x: u32, at: Reader) -> First
-    ensures { result ≡ declarable (has slots.declared x) at.at }
-{
-    if has(slots.declared, x) {
-        First::Fault {
-            number: 8,
-            place: at.at,
+// The stage: what it carries are the slots.
+struct Scoping;
+
+impl Stage for Scoping {
+    type State = Slots;
+
+    ghost enters = { λ s t. entering t };
+
+    ghost closes = { closed_by };
+
+    fn enter(
+        &self,
+        table: &[u32],
+        at: Reader,
+        x: Record,
+        next: Reader,
+        slots: Slots,
+    ) -> Result<(Reader, Slots), Refusal> {
+        slots.own(x, at)?;
+        let past = expressions(table, next, slots)?;
+        Ok((past, slots.shown(x)))
+    }
+
+    // What was visible outside is visible again, unless it is a SEQ's.
+    fn leave(&self, kind: u32, outside: Slots, inside: Slots) -> Slots {
+        if kind == 31 {
+            return inside;
         }
-    } else {
-        First::Clean
-    }
-}
-
-// 8 if it is not visible, 9 if it is a parameter or a loop's.
-fn settable(slots: Slots, x: u32, at: Reader) -> First
-    ensures { result ≡ settable (seen_of slots x) at.at }
-{
-    if has(slots.defined, x) {
-        return First::Clean;
-    }
-    if has(slots.fixed, x) {
-        First::Fault {
-            number: 9,
-            place: at.at,
+        Slots {
+            defined: outside.defined,
+            fixed: outside.fixed,
+            declared: inside.declared,
         }
-    } else {
-        First::Fault {
-            number: 8,
-            place: at.at,
-        }
-    }
-}
-
-// The fault of a statement's record by itself, which comes before its expressions'.
-fn own(slots: Slots, x: Record, at: Reader) -> First
-    ensures { result ≡ own slots x at.at }
-{
-    let kind = x.kind;
-    match kind {
-        32 => declarable(slots, x.p, at),
-        33 => settable(slots, x.p, at),
-        35 => declarable(slots, x.p, at),
-        _ => First::Clean,
-    }
-}
-
-fn declares(slots: Slots, x: u32, in_loop: bool) -> Slots
-    ensures { result ≡ declares slots x in_loop }
-{
-    Slots {
-        defined: put(slots.defined, x, !in_loop),
-        fixed: put(slots.fixed, x, in_loop),
-        declared: put(slots.declared, x, true),
-    }
-}
-
-// A DEF's slot is visible after its expression, a FOR's in the statement that follows.
-fn shown(slots: Slots, x: Record) -> Slots
-    ensures { result ≡ shown slots x }
-{
-    let kind = x.kind;
-    match kind {
-        32 => declares(slots, x.p, false),
-        35 => declares(slots, x.p, true),
-        _ => slots,
-    }
-}
-
-// A statement's record at the cursor, and its expressions.
-fn enter(table: &[u32], at: Reader, x: Record, next: Reader, slots: Slots) -> Walk
-    requires { next.at ≡ at.at + 1 }
-    ensures { result ≡ walk_of (entering table.now slots at.at x) }
-{
-    let inside = shown(slots, x);
-    match own(slots, x, at) {
-        First::Fault { number, place } => Walk::Stop { number, place },
-        First::Clean => match expressions(table, next, slots) {
-            Seek::Stop { number, place } => Walk::Stop { number, place },
-            Seek::Past(past) => Walk::On {
-                at: past,
-                slots: inside,
-            },
-        },
-    }
-}
-
-// After a statement within one of this kind: what was visible outside is visible again, unless it is a SEQ's.
-#[tactic(auto, using(std::proofs::lemmas::Bool::Decides::nat_tests), unfolding(crate::specs::Scoped::leaves, crate::specs::Scoped::closed_by, crate::specs::Scoped::walk_of, crate::specs::Scoped::walked_of))]
-fn leave(kind: u32, outside: Slots, inside: Walk) -> Walk
-    ensures { result ≡ walk_of (leaves kind outside (walked_of inside)) }
-{
-    match inside {
-        Walk::Stop { number, place } => Walk::Stop { number, place },
-        Walk::On { at, slots } => {
-            if kind == 31 {
-                return Walk::On { at, slots };
-            }
-            Walk::On {
-                at,
-                slots: Slots {
-                    defined: outside.defined,
-                    fixed: outside.fixed,
-                    declared: slots.declared,
-                },
-            }
-        }
-    }
-}
-
-// The statement at the cursor, which may hold others to the depth that is left, itself counted.
-fn statement(table: &[u32], start: Reader, left: u32, slots: Slots) -> Walk
-    ensures { result ≡ walk_of (walk (scoping table.now) table.now left start.at slots) }
-{
-    if left == 0 {
-        return Walk::On { at: start, slots };
-    }
-    match start.next(table) {
-        Read::End => Walk::On { at: start, slots },
-        Read::Found(x, next) => {
-            let mut parts = statements(x);
-            let mut walk = enter(table, start, x, next, slots);
-            while 0 < parts {
-                let Walk::On { at, slots: inside } = walk else {
-                    return walk;
-                };
-                walk = leave(x.kind, slots, statement(table, at, left - 1, inside));
-                parts -= 1;
-            }
-            walk
-        }
-    }
-}
-
-// Before a function's statement: its parameters.
-fn parameters(p: u32) -> Slots
-    ensures { result ≡ parameters_of p }
-{
-    let fixed = below(p);
-    Slots {
-        defined: 0,
-        fixed,
-        declared: fixed,
     }
 }
 
 // So many functions from the cursor on.
-fn functions(table: &[u32], start: Reader, count: u32) -> First
+#[tactic(auto, using(crate::proofs::Walking::funcs_all, crate::proofs::Walking::funcs_end, crate::proofs::ScopeSteps::scope_more), unfolding(crate::specs::Scoped::scoping))]
+fn functions(table: &[u32], start: Reader, count: u32) -> Result<(), Refusal>
     ensures { result ≡ funcs_from (scoped_func table.now) table.now count tt start.at }
 {
     let mut at = start;
-    let mut left = count;
-    while 0 < left {
-        let Read::Found(x, next) = at.next(table) else {
-            return First::Clean;
+    for f in 0..count {
+        let Some((x, next)) = at.next(table) else {
+            return Ok(());
         };
-        match statement(table, next, 16, parameters(x.p)) {
-            Walk::Stop { number, place } => {
-                return First::Fault { number, place };
-            }
-            Walk::On {
-                at: after,
-                slots: _,
-            } => {
-                at = after;
-            }
-        }
-        left -= 1;
+        let (past, _) = statement(&Scoping, table, next, 16, Slots::parameters(x.p))?;
+        at = past;
     }
-    First::Clean
+    Ok(())
 }
 
-pub fn scope(table: &[u32]) -> First
+#[tactic(auto, unfolding(crate::specs::Scoped::scoped, crate::specs::Passes::staged))]
+pub fn scope(table: &[u32]) -> Result<(), Refusal>
     ensures { result ≡ scoped table.now }
 {
     let heading = program(table);
-    let first = heading.first;
-    functions(table, first, heading.functions)
+    functions(table, heading.first, heading.functions)
 }

@@ -130,6 +130,7 @@ fn expressions(table: &[u32], start: Reader, slots: Slots) -> Result<Reader, Ref
 }
 
 // The stage: what it carries are the slots.
+#[derive(Clone, Copy)]
 struct Scoping;
 
 impl Stage for Scoping {

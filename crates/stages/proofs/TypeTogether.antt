@@ -5,7 +5,7 @@ use native.Mathlib.Numerals.{add-one}
 use native.Mathlib.Omega.{arith}
 use mathlib.Core.Path.{◌≡◌, refl, sym, ap, ◌∙◌, fun_ext}
 use mathlib.Core.Bool.{Bool, true, false, cond, not, ◌&&◌}
-use mathlib.Core.List.{List}
+use mathlib.Core.List.{List, ◌∷◌}
 use borrow.Author.Tests.{ltb-false}
 use lib.Dec.{eqb, ltb}
 use lib.ListN.{length, set as write, length-set}
@@ -21,10 +21,10 @@ use Rattle.script.specs.Tree.{Expr, Stmt, skip, seq, def, set, put as store, for
 use Rattle.script.specs.Table.{write_s}
 use Rattle.script.specs.Parse.{parsed, entered, passed, read_table}
 use Rattle.script.specs.Written.{count_s, list_e, list_s, list_ss, list_funcs, depth_s, depth_ss, head_of, InS, Inside, Insides, InFunc}
-use Rattle.script.specs.Stage.{or_else, Walked, goes, after, onward, over_program}
+use Rattle.script.specs.Stage.{or_else, Walked, goes, after, onward, over_program, stops}
 use Rattle.script.specs.Types.{Types, ty, numeric, require, type_e, suits, type_s, type_ss, numbers, type_f}
-use Rattle.scoping.specs.Passes.{At, come, noted, expressions_of, statements_of, nested, walk, then_first}
-use Rattle.stages.specs.Typed.{ty_of, is_boolean, types_of, no_parts, with_part, gather, suits_by, settled, judged_s, typed_at, typing, Known, typed_func, nobody, typed}
+use Rattle.scoping.specs.Passes.{At, come, closing, noted, expressions_of, statements_of, nested, walk, then_first}
+use Rattle.stages.specs.Typed.{ty_of, is_boolean, types_of, no_parts, with_part, gather, suits_by, settled, judged_s, typed_at, typing, Known, typed_func, nobody, typed, typing_at, kept}
 use Rattle.script.specs.declared.Env.{Env}
 use Rattle.script.specs.Stage.{First}
 use Rattle.script.proofs.Leading.{from}
@@ -55,6 +55,11 @@ alike_by false τ = numeric_is τ
 required : {A : Type 0} (at : ℕ) {b c : Bool} → b ≡ c → (w : Walked A) → after (require c at) w ≡ after (require b at) w
 required at e w = ap (λ (d : Bool). after (require d at) w) (sym e)
 
+closing_kept : (kind slots : ℕ) (w : Walked (At ℕ)) → closing (kept kind slots) w ≡ w
+unfolding closing
+closing_kept kind slots (goes b) = refl
+closing_kept kind slots (stops number place) = refl
+
 module _ (t params : List ℕ) (v : Env) (few : v.slots ≤ 32) (sized : length params ≡ 16) (known : v.params ≡ params) where
   abbrev Goes : ℕ → Walked (At ℕ) → Walked Types → Type 0
   Goes end w r = Together (λ b. types_of b) end w r
@@ -63,26 +68,33 @@ module _ (t params : List ℕ) (v : Env) (few : v.slots ≤ 32) (sized : length 
   one_typed : (slots at : ℕ) (e : Expr) (rest : List Record) → from t at ≡ list_e e rest → InS v e → typed_at t params slots 16 at ≡ answer_e slots at e
   one_typed slots at e rest is i = expr_typed t params slots v sized known e 16 at rest is i.1 i.0
 
+  enters_kept : (slots : ℕ) (x : Record) (left at : ℕ) {rest : List Record} → from t at ≡ x ∷ rest → 1 ≤ left
+      → (walk (typing t params) t left at slots ≡ nested (walk (typing t params) t (left - 1)) (λ z. z) (statements_of x) (typing_at t params slots at x)) × (from t (at + 1) ≡ rest)
+  unfolding typing
+  enters_kept slots x left at is some =
+      let (w, on) = enters (typing t params) t slots x left at is some in
+      (w ∙ ap (λ (g : Walked (At ℕ) → Walked (At ℕ)). nested (walk (typing t params) t (left - 1)) g (statements_of x) (typing_at t params slots at x)) (fun_ext λ u. closing_kept x.kind slots u), on)
+
   mutual
-    unfolding list_s size_s depth_s Inside count_s write_s type_s suits numeric types_of typing statements_of expressions_of nested gather judged_s suits_by settled no_parts with_part or_else onward after require
+    unfolding list_s size_s depth_s Inside count_s write_s type_s suits numeric types_of typing_at statements_of expressions_of nested gather judged_s suits_by settled no_parts with_part or_else onward after require
 
     stmt_goes : (s : Stmt) (left at slots : ℕ) (rest : List Record) → from t at ≡ list_s s rest → depth_s s ≤ left → Inside v s
         → Goes (at + size_s s) (walk (typing t params) t left at slots) (type_s (types_of slots) at s)
     stmt_goes skip left at slots rest is d i =
-        let (w, on) = enters (typing t params) t slots (rec 30 0 0 0) left at is d in
+        let (w, on) = enters_kept slots (rec 30 0 0 0) left at is d in
         go_as w refl (both_go {a = slots} refl)
     stmt_goes (seq ss) left at slots rest is d i =
-        let (w, on) = enters (typing t params) t slots (rec 31 (count_s ss) 0 0) left at is (omega arith) in
+        let (w, on) = enters_kept slots (rec 31 (count_s ss) 0 0) left at is (omega arith) in
         let q : at + 1 + size_ss ss ≡ at + suc (size_ss ss) = omega arith in
         go_to q (go_as w refl (stmts_go ss (left - 1) (at + 1) rest on (omega arith) i.2 (both_go {a = slots} refl)))
     stmt_goes (def x e) left at slots rest is d i =
-        let (w, on) = enters (typing t params) t slots (rec 32 x 0 0) left at is d in
+        let (w, on) = enters_kept slots (rec 32 x 0 0) left at is d in
         let q : at + 1 + size_e e ≡ at + suc (size_e e) = omega arith in
         let small : x < 32 = omega (arith, i.0) in
         let Γ = types_of slots in
         go_to q (go_as (w ∙ rw (one_typed slots (at + 1) e rest on i.1) refl) refl (go_after (type_e Γ (at + 1) e) (both_go (settles slots x (ty Γ e) small))))
     stmt_goes (set x e) left at slots rest is d i =
-        let (w, on) = enters (typing t params) t slots (rec 33 x 0 0) left at is d in
+        let (w, on) = enters_kept slots (rec 33 x 0 0) left at is d in
         let q : at + 1 + size_e e ≡ at + suc (size_e e) = omega arith in
         let Γ = types_of slots in
         let own = cond (has slots x) (is_boolean (ty Γ e)) (not (is_boolean (ty Γ e))) in
@@ -90,7 +102,7 @@ module _ (t params : List ℕ) (v : Env) (few : v.slots ≤ 32) (sized : length 
         (go_as (w ∙ rw (one_typed slots (at + 1) e rest on i.1) refl) (required at (alike_by (has slots x) (ty Γ e)) _)
         (go_after (require own at) (go_after (type_e Γ (at + 1) e) (both_go {a = slots} refl))))
     stmt_goes (store b k e) left at slots rest is d i =
-        let (w, on) = enters (typing t params) t slots (rec 34 b 0 0) left at is d in
+        let (w, on) = enters_kept slots (rec 34 b 0 0) left at is d in
         let m = at + 1 + size_e k in
         let q : m + size_e e ≡ at + suc (size_e k + size_e e) = omega arith in
         let Γ = types_of slots in
@@ -104,11 +116,11 @@ module _ (t params : List ℕ) (v : Env) (few : v.slots ≤ 32) (sized : length 
         (go_as (w ∙ rw (read, read_on) refl) (required at plain _ ∙ ap (after (require own at)) (after_after first second (goes Γ)))
         (go_after (require own at) (go_after (or_else first second) (both_go {a = slots} refl))))
     stmt_goes (for x l r s) left at slots rest is d i =
-        let (w, on) = enters (typing t params) t slots (rec 35 x l r) left at is (omega arith) in
+        let (w, on) = enters_kept slots (rec 35 x l r) left at is (omega arith) in
         let q : at + 1 + size_s s ≡ at + suc (size_s s) = omega arith in
         go_to q (go_as w refl (stmt_goes s (left - 1) (at + 1) slots rest on (omega arith) i.3))
     stmt_goes (if c s u) left at slots rest is d i =
-        let (w, on) = enters (typing t params) t slots (rec 36 0 0 0) left at is (omega arith) in
+        let (w, on) = enters_kept slots (rec 36 0 0 0) left at is (omega arith) in
         let m = at + 1 + size_e c in
         let k = m + size_s s in
         let q : k + size_s u ≡ at + suc (size_e c + (size_s s + size_s u)) = omega arith in
@@ -127,7 +139,7 @@ module _ (t params : List ℕ) (v : Env) (few : v.slots ≤ 32) (sized : length 
         (go_as (w ∙ rw (one_typed slots (at + 1) c (list_s s (list_s u rest)) on i.0) refl ∙ both) (required at (boolean_is (ty Γ c)) _)
         (go_after own (go_after first (go_on (k + size_s u) f (λ Δ. type_s Δ k u) branch (λ b. stmt_goes u (left - 1) k b rest other deep i.2)))))
     stmt_goes (return e) left at slots rest is d i =
-        let (w, on) = enters (typing t params) t slots (rec 37 0 0 0) left at is d in
+        let (w, on) = enters_kept slots (rec 37 0 0 0) left at is d in
         let q : at + 1 + size_e e ≡ at + suc (size_e e) = omega arith in
         let Γ = types_of slots in
         go_to q

@@ -6,15 +6,13 @@ use Rattle.word.specs.Types.{Ty, number, boolean}
 use Rattle.word.specs.Sets.{has, put}
 use Rattle.word.specs.declared.Record.{Record}
 use Rattle.word.specs.Reader.{Read}
-use Rattle.std.specs.Prelude.{Some, None}
+use Rattle.std.specs.Prelude.{Some, None, unwrap_or}
 use Rattle.script.specs.Stage.{clean, or_else, Walked, goes, stops, after, onward}
 use Rattle.script.specs.Types.{Types, require}
-use Rattle.scoping.specs.Passes.{At, come, noted, expressions_of, arity_of, Turn, walk, Over, staged}
+use Rattle.scoping.specs.Passes.{At, come, noted, expressions_of, arity_of, Turn, turn, walk, Over, staged}
 use Rattle.script.specs.Stage.{First}
 use Rattle.stages.specs.declared.types.Typed.{Typed}
 use Rattle.stages.specs.declared.types.Parts.{Parts}
-use Rattle.stages.specs.declared.types.Walk.{Walk}
-use Rattle.stages.specs.declared.types.Walk.TheVariants as walks
 
 -- ---- types as tests
 unfoldable pub ty_of : Bool → Ty
@@ -31,18 +29,21 @@ types_of slots = λ x. ty_of (has slots x)
 -- ---- a record's parts
 -- what is known of them: before any, and with one more
 unfoldable pub no_parts : ℕ → Parts
-no_parts at = record { fresh = true; lead = false; numbers = true; booleans = true; first = clean; next = record { at = at } }
+no_parts at = record { lead = None; numbers = true; booleans = true; first = clean; next = record { at = at } }
 
 unfoldable pub with_part : Parts → Typed → Parts
 with_part z y =
     record {
-      fresh = false;
-      lead = cond z.fresh y.boolean z.lead;
+      lead = Some (unwrap_or z.lead y.boolean);
       numbers = z.numbers && not y.boolean;
       booleans = z.booleans && y.boolean;
       first = or_else z.first y.first;
       next = y.next;
     }
+
+-- whether the first of them is a boolean; without parts it matters to nobody
+abbrev pub leading : Parts → Bool
+leading z = unwrap_or z.lead false
 
 -- so many, one after another
 unfoldable pub gather : (ℕ → Typed) → ℕ → Parts → Parts
@@ -73,7 +74,7 @@ fits_by x numbers booleans = cond (eqb x.kind 25) booleans (cond (eqb x.kind 27)
 unfoldable pub judged : ℕ → Record → ℕ → Parts → Typed
 judged slots x at z =
     record {
-      boolean = type_by slots x z.lead;
+      boolean = type_by slots x (leading z);
       first = or_else (require (fits_by x z.numbers z.booleans) at) z.first;
       next = z.next;
     }
@@ -93,7 +94,7 @@ typed_at t params slots (suc left) at = typed_by params slots (typed_at t params
 -- ---- statements
 unfoldable pub suits_by : ℕ → Record → Parts → Bool
 suits_by slots x z =
-    cond (eqb x.kind 33) (cond (has slots x.p) z.lead (not z.lead))
+    cond (eqb x.kind 33) (cond (has slots x.p) (leading z) (not (leading z)))
     (cond (eqb x.kind 34) z.numbers
     (cond (eqb x.kind 36) z.booleans
     (cond (eqb x.kind 37) z.numbers
@@ -104,14 +105,17 @@ unfoldable pub settled : ℕ → Record → Bool → ℕ
 settled slots x lead = cond (eqb x.kind 32) (put slots x.p lead) slots
 
 unfoldable pub judged_s : ℕ → Record → ℕ → Parts → Walked (At ℕ)
-judged_s slots x at z = after (require (suits_by slots x z) at) (after z.first (come z.next.at (settled slots x z.lead)))
+judged_s slots x at z = after (require (suits_by slots x z) at) (after z.first (come z.next.at (settled slots x (leading z))))
+
+unfoldable pub typing_at : List ℕ → List ℕ → ℕ → ℕ → Record → Walked (At ℕ)
+typing_at t params slots at x = judged_s slots x at (gather (typed_at t params slots 16) (expressions_of x.kind) (no_parts (at + 1)))
+
+-- a slot is declared once, so nothing is taken back
+abbrev pub kept : ℕ → ℕ → ℕ → ℕ
+kept kind outside inside = inside
 
 unfoldable pub typing : List ℕ → List ℕ → Turn ℕ
-typing t params =
-    record {
-      enter = λ slots at x. judged_s slots x at (gather (typed_at t params slots 16) (expressions_of x.kind) (no_parts (at + 1)));
-      leave = λ kind slots w. w;
-    }
+typing t params = turn (typing_at t params) kept
 
 -- ---- functions: how many parameters each one before has
 pub record Known : Type 0 where
@@ -130,12 +134,3 @@ nobody = record { func = 0; params = replicate 16 0 }
 
 unfoldable pub typed : List ℕ → First
 typed t = staged (typed_func t) t nobody
-
--- ---- the code's answers
-unfoldable pub walk_of : Walked (At ℕ) → Walk
-walk_of (goes b) = walks.On (record { at = b.at }) b.state
-walk_of (stops n place) = walks.Stop n place
-
-unfoldable pub walked_of : Walk → Walked (At ℕ)
-walked_of (walks.On at slots) = come at.at slots
-walked_of (walks.Stop n place) = stops n place

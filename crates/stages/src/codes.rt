@@ -1,4 +1,6 @@
 // Operators by their codes: what types they have and require.
+#![tactic(auto, using(std::proofs::lemmas::Bool::Decides::nat_tests), unfolding(crate::specs::Typed::code_type, crate::specs::Typed::code_fits))]
+
 ghost use Rattle.std.specs.Prelude.{◌≡◌};
 ghost use Rattle.stages.specs.Typed.{code_type, code_fits};
 

@@ -6,23 +6,15 @@ use crate::stores::stores;
 use crate::types::types;
 use reading::structure::structure;
 use scoping::scope::scope;
-use script::First;
+use word::Refusal;
 
 // The first fault in the order of the stages, of any words.
-pub fn judge(table: &[u32]) -> First
+#[tactic(auto, unfolding(script::specs::Stage::or_else))]
+pub fn judge(table: &[u32]) -> Result<(), Refusal>
     ensures { result ≡ judged table.now }
 {
-    let read = structure(table);
-    let First::Clean = read else {
-        return read;
-    };
-    let scoped = scope(table);
-    let First::Clean = scoped else {
-        return scoped;
-    };
-    let typed = types(table);
-    let First::Clean = typed else {
-        return typed;
-    };
+    structure(table)?;
+    scope(table)?;
+    types(table)?;
     stores(table)
 }

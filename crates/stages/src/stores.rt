@@ -5,30 +5,27 @@ ghost use Rattle.word.specs.Records.{records_of};
 ghost use Rattle.stages.specs.Stored.{storing, stored};
 
 use scoping::passes::program;
-use script::First;
-use word::reader::{Read, Reader};
+use word::Refusal;
+use word::reader::Reader;
 
 // As many functions are left at the exposed one, the last: itself.
 const EXPOSED: u32 = 1;
 
 // From the cursor on, with so many functions left, the exposed one counted.
-fn first_store(table: &[u32], start: Reader, functions: u32) -> First
+fn first_store(table: &[u32], start: Reader, functions: u32) -> Result<(), Refusal>
     ensures { result ≡ storing functions start.at (drop start.at (records_of table.now)) }
 {
     let mut at = start;
     let mut left = functions;
-    while let Read::Found(x, next) = at.next(table) {
+    while let Some((x, next)) = at.next(table) {
         let kind = x.kind;
         match kind {
             34 => {
-                return First::Fault {
-                    number: 11,
-                    place: at.at,
-                };
+                return Err(at.refusal(11));
             }
             3 => {
                 if left <= EXPOSED {
-                    return First::Clean;
+                    return Ok(());
                 }
                 left -= 1;
             }
@@ -36,13 +33,13 @@ fn first_store(table: &[u32], start: Reader, functions: u32) -> First
         }
         at = next;
     }
-    First::Clean
+    Ok(())
 }
 
-pub fn stores(table: &[u32]) -> First
+#[tactic(auto, unfolding(crate::specs::Stored::stored))]
+pub fn stores(table: &[u32]) -> Result<(), Refusal>
     ensures { result ≡ stored table.now }
 {
     let heading = program(table);
-    let first = heading.first;
-    first_store(table, first, heading.functions)
+    first_store(table, heading.first, heading.functions)
 }

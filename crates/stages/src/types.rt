@@ -1,82 +1,67 @@
-// Types: refusal 10, at the record that requires. A recursive descent over the statements and over their expressions, the depth that is left falling at
-// each part. Every expression has a type even if a part is at fault, so it answers both. Assumes nothing of the table; what it says is meant of one
-// that was read.
+// Types: refusal 10, at the record that requires. A recursive descent over the expressions of each statement, the depth that is left falling at each part.
+// Every expression has a type even if a part is at fault, so it answers both. Assumes nothing of the table; what it says is meant of one that was read.
+#![tactic(auto, using(std::proofs::lemmas::Bool::Decides::nat_tests), unfolding(script::specs::Stage::or_else, script::specs::Stage::after, script::specs::Types::require, scoping::specs::Passes::answered, crate::specs::Typed::no_parts, crate::specs::Typed::with_part, crate::specs::Typed::type_by, crate::specs::Typed::fits_by, crate::specs::Typed::judged, crate::specs::Typed::untyped, crate::specs::Typed::suits_by, crate::specs::Typed::settled, crate::specs::Typed::judged_s, crate::specs::Typed::typing_at))]
+
 ghost use Rattle.std.specs.Prelude.{◌≡◌, ◌+◌};
-ghost use Rattle.scoping.specs.Passes.{walk, funcs_from};
-ghost use Rattle.stages.specs.Typed.{no_parts, with_part, type_by, fits_by, judged, untyped, typed_at, suits_by, settled, judged_s, typing, typed_func, nobody, typed, walk_of};
+ghost use Rattle.script.specs.Types.{require};
+ghost use Rattle.scoping.specs.Passes.{funcs_from, answered};
+ghost use Rattle.stages.specs.Typed.{no_parts, with_part, leading, gather, type_by, fits_by, judged, untyped, typed_at, suits_by, settled, judged_s, typing_at, kept, typed_func, nobody, typed};
 
 use crate::codes::{code_fits, code_type};
-use scoping::passes::{arity, expressions, note, or_else, program, statements};
-use script::First;
-use word::Record;
-use word::reader::{Read, Reader};
+use scoping::passes::{arity, expressions, note, program};
+use scoping::walk::{Stage, statement};
+use word::reader::Reader;
 use word::sets::{has, put};
+use word::{Record, Refusal};
 
 // Whether an expression is a boolean, the first fault in it, and the cursor past it.
-#[derive(Clone, Copy)]
+#[derive(Clone, Copy, Debug, PartialEq, Eq)]
 pub struct Typed {
     pub boolean: bool,
-    pub first: First,
+    pub first: Result<(), Refusal>,
     pub next: Reader,
 }
 
-// What is known of a record's expressions so far: whether there was none, whether the first one is a boolean, whether all are numbers, whether all are
-// booleans, the first fault in them, and the cursor past them.
-#[derive(Clone, Copy)]
+// What is known of a record's expressions so far: whether the first one is a boolean, if there is one; whether all are numbers, whether all are booleans;
+// the first fault in them, and the cursor past them.
+#[derive(Clone, Copy, Debug, PartialEq, Eq)]
 pub struct Parts {
-    pub fresh: bool,
-    pub lead: bool,
+    pub lead: Option<bool>,
     pub numbers: bool,
     pub booleans: bool,
-    pub first: First,
+    pub first: Result<(), Refusal>,
     pub next: Reader,
 }
 
-// The cursor past a statement, with the slots that are booleans after it; or the first fault in it.
-#[derive(Clone, Copy)]
-pub enum Walk {
-    On { at: Reader, slots: u32 },
-    Stop { number: u32, place: usize },
-}
-
-fn no_parts(next: Reader) -> Parts
-    ensures { result ≡ no_parts next.at }
-{
-    Parts {
-        fresh: true,
-        lead: false,
-        numbers: true,
-        booleans: true,
-        first: First::Clean,
-        next,
+impl Parts {
+    fn none(next: Reader) -> Parts
+        ensures { result ≡ no_parts next.at }
+    {
+        Parts {
+            lead: None,
+            numbers: true,
+            booleans: true,
+            first: Ok(()),
+            next,
+        }
     }
-}
 
-fn with_part(parts: Parts, one: Typed) -> Parts
-    ensures { result ≡ with_part parts one }
-{
-    let before = parts.first;
-    let now = one.first;
-    let next = one.next;
-    let first = or_else(before, now);
-    if parts.fresh {
+    fn with(self, one: Typed) -> Parts
+        ensures { result ≡ with_part self one }
+    {
         Parts {
-            fresh: false,
-            lead: one.boolean,
-            numbers: parts.numbers & !one.boolean,
-            booleans: parts.booleans & one.boolean,
-            first,
-            next,
+            lead: Some(self.lead.unwrap_or(one.boolean)),
+            numbers: self.numbers & !one.boolean,
+            booleans: self.booleans & one.boolean,
+            first: self.first.and(one.first),
+            next: one.next,
         }
-    } else {
-        Parts {
-            fresh: false,
-            lead: parts.lead,
-            numbers: parts.numbers & !one.boolean,
-            booleans: parts.booleans & one.boolean,
-            first,
-            next,
-        }
+    }
+
+    fn leading(self) -> bool
+        ensures { result ≡ leading self }
+    {
+        self.lead.unwrap_or(false)
     }
 }
 
@@ -86,10 +71,8 @@ fn type_by(slots: u32, x: Record, lead: bool) -> bool
 {
     let kind = x.kind;
     match kind {
-        21 => true,
-        22 => true,
+        21 | 22 | 25 => true,
         23 => has(slots, x.p),
-        25 => true,
         27 => code_type(x.p, lead),
         _ => false,
     }
@@ -107,28 +90,25 @@ fn fits(x: Record, numbers: bool, booleans: bool) -> bool
     }
 }
 
+// 10, where what is required is not there.
+fn require(met: bool, at: Reader) -> Result<(), Refusal>
+    ensures { result ≡ require met at.at }
+{
+    if !met {
+        return Err(at.refusal(10));
+    }
+    Ok(())
+}
+
 // The whole's own fault comes before its parts'.
 fn judge(slots: u32, x: Record, at: Reader, parts: Parts) -> Typed
     ensures { result ≡ judged slots x at.at parts }
 {
-    let boolean = type_by(slots, x, parts.lead);
-    let first = parts.first;
-    let next = parts.next;
-    if fits(x, parts.numbers, parts.booleans) {
-        Typed {
-            boolean,
-            first,
-            next,
-        }
-    } else {
-        Typed {
-            boolean,
-            first: First::Fault {
-                number: 10,
-                place: at.at,
-            },
-            next,
-        }
+    let own = require(fits(x, parts.numbers, parts.booleans), at);
+    Typed {
+        boolean: type_by(slots, x, parts.leading()),
+        first: own.and(parts.first),
+        next: parts.next,
     }
 }
 
@@ -137,31 +117,28 @@ fn nothing(at: Reader) -> Typed
 {
     Typed {
         boolean: false,
-        first: First::Clean,
+        first: Ok(()),
         next: at,
     }
 }
 
 // The expression at the cursor, which may hold others to the depth that is left, itself counted.
+#[tactic(auto, using(crate::proofs::Gathering::typed_deep, crate::proofs::Gathering::typed_end, crate::proofs::Gathering::typed_found, crate::proofs::Gathering::gather_more, crate::proofs::Gathering::gather_all))]
 fn expression(table: &[u32], params: &[u32; 16], slots: u32, start: Reader, left: u32) -> Typed
     ensures { result ≡ typed_at table.now params.now slots left start.at }
 {
     if left == 0 {
         return nothing(start);
     }
-    match start.next(table) {
-        Read::End => nothing(start),
-        Read::Found(x, next) => {
-            let mut parts = no_parts(next);
-            let mut more = arity(params, x);
-            while 0 < more {
-                let at = parts.next;
-                parts = with_part(parts, expression(table, params, slots, at, left - 1));
-                more -= 1;
-            }
-            judge(slots, x, start, parts)
-        }
+    let Some((x, next)) = start.next(table) else {
+        return nothing(start);
+    };
+    let count = arity(params, x);
+    let mut parts = Parts::none(next);
+    for part in 0..count {
+        parts = parts.with(expression(table, params, slots, parts.next, left - 1));
     }
+    judge(slots, x, start, parts)
 }
 
 // Whether a statement's expressions are what it requires: a SET's of its slot's type, a condition a boolean, the others numbers.
@@ -170,12 +147,7 @@ fn suits(slots: u32, x: Record, parts: Parts) -> bool
 {
     let kind = x.kind;
     match kind {
-        33 => {
-            if has(slots, x.p) {
-                return parts.lead;
-            }
-            !parts.lead
-        }
+        33 => has(slots, x.p) == parts.leading(),
         34 => parts.numbers,
         36 => parts.booleans,
         37 => parts.numbers,
@@ -194,100 +166,75 @@ fn settle(slots: u32, x: Record, lead: bool) -> u32
     }
 }
 
-// A statement's own fault comes before its expressions'.
-fn judge_statement(slots: u32, x: Record, at: Reader, parts: Parts) -> Walk
-    ensures { result ≡ walk_of (judged_s slots x at.at parts) }
-{
-    if !suits(slots, x, parts) {
-        return Walk::Stop {
-            number: 10,
-            place: at.at,
-        };
-    }
-    let first = parts.first;
-    let next = parts.next;
-    match first {
-        First::Fault { number, place } => Walk::Stop { number, place },
-        First::Clean => Walk::On {
-            at: next,
-            slots: settle(slots, x, parts.lead),
-        },
-    }
+// The stage: what it carries are the slots that are booleans. Of each function before it is known how many parameters it has.
+#[derive(Clone, Copy)]
+struct Typing {
+    params: [u32; 16],
 }
 
-// A statement's record at the cursor, and its expressions.
-fn enter(table: &[u32], params: &[u32; 16], slots: u32, at: Reader, x: Record, next: Reader) -> Walk
-    requires { next.at ≡ at.at + 1 }
-    ensures { result ≡ walk_of ((typing table.now params.now).enter slots at.at x) }
-{
-    let mut parts = no_parts(next);
-    let mut more = expressions(x.kind);
-    while 0 < more {
-        let here = parts.next;
-        parts = with_part(parts, expression(table, params, slots, here, 16));
-        more -= 1;
-    }
-    judge_statement(slots, x, at, parts)
-}
-
-// The statement at the cursor, which may hold others to the depth that is left, itself counted.
-fn statement(table: &[u32], params: &[u32; 16], start: Reader, left: u32, slots: u32) -> Walk
-    ensures { result ≡ walk_of (walk (typing table.now params.now) table.now left start.at slots) }
-{
-    if left == 0 {
-        return Walk::On { at: start, slots };
-    }
-    match start.next(table) {
-        Read::End => Walk::On { at: start, slots },
-        Read::Found(x, next) => {
-            let mut parts = statements(x);
-            let mut walk = enter(table, params, slots, start, x, next);
-            while 0 < parts {
-                let Walk::On { at, slots: inside } = walk else {
-                    return walk;
-                };
-                walk = statement(table, params, at, left - 1, inside);
-                parts -= 1;
-            }
-            walk
+impl Typing {
+    // So many expressions, one after another.
+    #[tactic(auto, using(crate::proofs::Gathering::gather_more, crate::proofs::Gathering::gather_all))]
+    fn gather(&self, table: &[u32], slots: u32, next: Reader, count: u32) -> Parts
+        ensures { result ≡ gather (typed_at table.now self.now.params slots 16) count (no_parts next.at) }
+    {
+        let mut parts = Parts::none(next);
+        for part in 0..count {
+            parts = parts.with(expression(table, &self.params, slots, parts.next, 16));
         }
+        parts
+    }
+}
+
+impl Stage for Typing {
+    type State = u32;
+
+    ghost enters = { λ s t. typing_at t s.params };
+
+    ghost closes = { kept };
+
+    // A statement's own fault comes before its expressions'.
+    fn enter(
+        &self,
+        table: &[u32],
+        at: Reader,
+        x: Record,
+        next: Reader,
+        slots: u32,
+    ) -> Result<(Reader, u32), Refusal> {
+        let parts = self.gather(table, slots, next, expressions(x.kind));
+        require(suits(slots, x, parts), at)?;
+        parts.first?;
+        Ok((parts.next, settle(slots, x, parts.leading())))
+    }
+
+    fn leave(&self, kind: u32, outside: u32, inside: u32) -> u32 {
+        inside
     }
 }
 
 // So many functions from the cursor on; of each it is noted how many parameters it has.
-fn functions(table: &[u32], start: Reader, count: u32) -> First
+#[tactic(auto, using(scoping::proofs::Walking::funcs_all, scoping::proofs::Walking::funcs_end))]
+fn functions(table: &[u32], start: Reader, count: u32) -> Result<(), Refusal>
     ensures { result ≡ funcs_from (typed_func table.now) table.now count nobody start.at }
 {
-    let params = &mut [0u32; 16];
-    let mut known = 0usize;
+    let mut stage = Typing { params: [0; 16] };
     let mut at = start;
-    let mut left = count;
-    while 0 < left {
-        let Read::Found(x, next) = at.next(table) else {
-            return First::Clean;
+    for f in 0..count {
+        let Some((x, next)) = at.next(table) else {
+            return Ok(());
         };
-        match statement(table, params, next, 16, 0) {
-            Walk::Stop { number, place } => {
-                return First::Fault { number, place };
-            }
-            Walk::On {
-                at: after,
-                slots: _,
-            } => {
-                at = after;
-            }
-        }
-        note(params, known, x.p);
-        known += 1;
-        left -= 1;
+        let (past, _) = statement(&stage, table, next, 16, 0)?;
+        at = past;
+        note(&mut stage.params, f as usize, x.p);
     }
-    First::Clean
+    Ok(())
 }
 
-pub fn types(table: &[u32]) -> First
+#[tactic(auto, unfolding(crate::specs::Typed::typed, scoping::specs::Passes::staged))]
+pub fn types(table: &[u32]) -> Result<(), Refusal>
     ensures { result ≡ typed table.now }
 {
     let heading = program(table);
-    let first = heading.first;
-    functions(table, first, heading.functions)
+    functions(table, heading.first, heading.functions)
 }

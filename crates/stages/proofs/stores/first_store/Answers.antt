@@ -4,6 +4,7 @@ use native.Mathlib.Omega.{arith}
 use mathlib.Core.Path.{◌≡◌, sym, ap, ◌∙◌}
 use mathlib.Core.List.{◌∷◌}
 use Rattle.word.specs.Records.{records}
+use Rattle.std.specs.Prelude.{Err}
 use Rattle.stages.specs.Stored.{storing}
 use Rattle.script.proofs.Leading.{from}
 use Rattle.scoping.proofs.Found.{found_on, found_none}
@@ -23,7 +24,7 @@ rest : (c : In-Some) → let t = c.args.table.now in
 rest c = ap (storing _ _) (sym (there c).1) ∙ c.loop-x.invariant
 
 pub returns-in-34 : goal.returns-in-34
-returns-in-34 c = sym (at_store _ _ _ _ c.in-34.is) ∙ rest (goal.at.returns-in-34 c).In-Some
+returns-in-34 c = ap Err c.refusal.ensures ∙ sym (at_store _ _ _ _ c.in-34.is) ∙ rest (goal.at.returns-in-34 c).In-Some
 
 pub returns-then-left-le-EXPOSED : goal.returns-then-left-le-EXPOSED
 returns-then-left-le-EXPOSED c = sym (at_last _ _ _ _ c.in-3.is c.if-left-le-EXPOSED.true) ∙ rest (goal.at.returns-then-left-le-EXPOSED c).In-Some

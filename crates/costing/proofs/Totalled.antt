@@ -40,7 +40,8 @@ use Rattle.translation.proofs.Heights.{depth_ifs}
 use Rattle.costing.specs.Counting.{count}
 use Rattle.costing.specs.Totals.{Totals, totals, body_at, keeping, function_at, Outcome, outcome, or_over, functions_from, counted, cost_of}
 use Rattle.costing.specs.declared.count.Count.{Count}
-use Rattle.costing.specs.declared.Cost.TheVariants.{Within as Kept, Over}
+use Rattle.translation.specs.Compile.{announced}
+use Rattle.word.proofs.Refused.{refused_number, refused_place}
 use Rattle.costing.proofs.Turns.{function_found}
 use Rattle.costing.proofs.Tallying.{alike, add_held}
 use Rattle.costing.proofs.Counted.{stmt_counted}
@@ -88,8 +89,8 @@ module _ (t : List ℕ) where
 -- it agrees with 12: the figures, or the function that is over
 pub record Tells (r : First) (o : Outcome) (deeps : List ℕ) (f : ℕ) (fs : List Func) (known : List ℕ) (records steps : ℕ) : Type 0 where
   pub clean : r ≡ Ok tt
-      → o ≡ outcome (Kept (hold (records + records_fs (map FDEFT fs))) (get_or (steps ∷ rest_from known (map FDEFT fs)) (length fs) 0)) (deeps_after deeps f fs)
-  pub over : (number place : ℕ) → r ≡ refuse number place → (number ≡ 12) × (o.cost ≡ Over place)
+      → o ≡ outcome (Ok (announced (hold (records + records_fs (map FDEFT fs))) (get_or (steps ∷ rest_from known (map FDEFT fs)) (length fs) 0))) (deeps_after deeps f fs)
+  pub over : (number place : ℕ) → r ≡ refuse number place → (number ≡ 12) × (o.cost ≡ refuse 12 place)
 
 -- none
 tells_none : (t κ deeps known params : List ℕ) (c : Count) (at f : ℕ) → hold c.steps ≡ c.steps
@@ -100,7 +101,7 @@ tells_none t κ deeps known params c at f h =
       clean =
           λ e.
           let n : c.records ≡ c.records + 0 = omega arith in
-          λ i. outcome (Kept (hold (n i)) (h i)) deeps;
+          λ i. outcome (Ok (announced (hold (n i)) (h i))) deeps;
       over = λ number place e. absurd (faulty (sym e));
     }
 
@@ -117,11 +118,11 @@ tells_first deeps known f at g gs records steps r y o true h =
       clean =
           λ e.
           rest.clean e
-          ∙ ap (λ (k : ℕ). outcome (Kept k (get_or (n ∷ rest_from (known ++ (n ∷ [])) (map FDEFT gs)) (length gs) 0)) (deeps_after (keep deeps f (depth g.body)) (suc f) gs))
+          ∙ ap (λ (k : ℕ). outcome (Ok (announced k (get_or (n ∷ rest_from (known ++ (n ∷ [])) (map FDEFT gs)) (length gs) 0))) (deeps_after (keep deeps f (depth g.body)) (suc f) gs))
           (add_held records (records_f (FDEFT g)) _ _ refl);
       over = rest.over;
     }
-tells_first deeps known f at g gs records steps r y o false h = record { clean = λ e. absurd (faulty e); over = λ number place e. (cc, cc) }
+tells_first deeps known f at g gs records steps r y o false h = record { clean = λ e. absurd (faulty e); over = λ number place e. (sym (refused_number e), ap (refuse 12) (refused_place e)) }
 
 -- the count, where it is known what the first function leaves
 first_is : (t : List ℕ) (k f n : ℕ) (z y : Totals) → function_at t f z ≡ y → leb y.count.steps most ≡ leb n most
@@ -190,14 +191,14 @@ module _ (t : List ℕ) (w : Words t) (p : Program) (i : ℕ) (e : read_table t 
       (omega (arith, within_ranges.short, listing_size p)) (hold_within 0 (omega arith)) in
       rw (first, steps_rest [] (map FDEFT p.funcs)) a
 
-  clean_is : costs p ≡ Ok tt → counted t deeps ≡ outcome (Kept (records (tape (translate p))) (steps_exposed (translate p))) (deeps_after deeps 0 p.funcs)
+  clean_is : costs p ≡ Ok tt → counted t deeps ≡ outcome (Ok (announced (records (tape (translate p))) (steps_exposed (translate p)))) (deeps_after deeps 0 p.funcs)
   unfolding first_func translate
   clean_is clean =
       let (is, within_ranges) = lists t p i w e in
       let n = first_func p + records_fs (map FDEFT p.funcs) in
       let size : records (tape (translate p)) ≡ n = omega (arith, tape_records p, instructions_records (translate p)) in
       let held : hold n ≡ records (tape (translate p)) = hold_within n (omega (arith, size, tape_records p, tape_most p within_ranges)) ∙ sym size in
-      whole.clean clean ∙ (λ j. outcome (Kept (held j) (exposed p 0 within_ranges.some j)) (deeps_after deeps 0 p.funcs))
+      whole.clean clean ∙ (λ j. outcome (Ok (announced (held j) (exposed p 0 within_ranges.some j))) (deeps_after deeps 0 p.funcs))
 
   cost_by : (r : First) → costs p ≡ r → (counted t deeps).cost ≡ cost_of r (records (tape (translate p))) (steps_exposed (translate p))
   unfolding cost_of

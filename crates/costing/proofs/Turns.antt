@@ -14,13 +14,16 @@ use Rattle.word.specs.Reader.{Read}
 use Rattle.std.specs.Prelude.{Some, None}
 use Rattle.script.specs.Table.{read_s}
 use Rattle.script.proofs.Leading.{from}
+use Rattle.scoping.proofs.Found.{found_on, found_none}
 use Rattle.scoping.specs.Passes.{heading, noted, arity_of}
 use Rattle.tape.specs.Steps.{most}
 use Rattle.tape.specs.Held.{hold}
 use Rattle.costing.specs.Counting.{moved, plus, times, weight, past, tally_one, tally, head, enter, statement}
 use Rattle.costing.specs.Totals.{Totals, body_at, keeping, function_by, function_at, Outcome, outcome, or_over, functions_from, counted}
 use Rattle.costing.specs.declared.count.Count.{Count}
-use Rattle.costing.specs.declared.Cost.TheVariants.{Within, Over}
+use Rattle.translation.specs.Compile.{announced}
+use Rattle.std.specs.Prelude.{Ok, Err}
+use Rattle.word.specs.Refusals.{refuse}
 
 -- ---- an expression's records
 module _ (params κ : List ℕ) where
@@ -29,7 +32,7 @@ module _ (params κ : List ℕ) where
   tally_over [] p c e = refl
   tally_over (x ∷ xs) p c e = rw e refl
 
-  pub tally_none : {xs : List Record} (p : ℕ) (c : Count) → xs ≡ [] → tally params κ xs p c ≡ c
+  tally_none : {xs : List Record} (p : ℕ) (c : Count) → xs ≡ [] → tally params κ xs p c ≡ c
   unfolding tally
   tally_none p c e = rw e refl
 
@@ -40,13 +43,15 @@ module _ (params κ : List ℕ) where
       let e : p ≡ suc (p - 1) = omega arith in
       ap (λ (k : ℕ). tally_one params κ (tally params κ xs) x k c) e
 
-  pub tally_step : (t : List ℕ) (here one : Count) (x : Record) (next : Reader) (p q w : ℕ) → 0 < p → from t here.at.at ≡ x ∷ from t (here.at.at + 1)
-      → next.at ≡ here.at.at + 1 → w ≡ weight κ x → one ≡ plus 1 w here → q ≡ hold (p - 1 + arity_of params x)
-      → tally params κ (from t next.at) q (moved next.at one) ≡ tally params κ (from t here.at.at) p here
+  pub tally_found : (t : List ℕ) (here : Count) (p : ℕ) (x : Record) (next : Reader) → 0 < p → read_at t here.at.at ≡ Some (x, next)
+      → tally params κ (from t next.at) (hold (p - 1 + arity_of params x)) (moved next.at (plus 1 (weight κ x) here)) ≡ tally params κ (from t here.at.at) p here
   unfolding plus past
-  tally_step t here one x next p q w some is on heavy plus_is parts =
-      let made : moved next.at one ≡ past 1 (weight κ x) here = (λ i. moved (on i) (plus_is i)) ∙ ap (λ (n : ℕ). past 1 n here) heavy in
-      (λ i. tally params κ (from t (on i)) (parts i) (made i)) ∙ sym (tally_on x (from t (here.at.at + 1)) p here some) ∙ ap (λ (xs : List Record). tally params κ xs p here) (sym is)
+  tally_found t here p x next some found =
+      let (there, is, on) = found_on t here.at.at x next found in
+      rw (on, is) (sym (tally_on x (from t (here.at.at + 1)) p here some))
+
+  pub tally_end : (t : List ℕ) (here : Count) (p : ℕ) → read_at t here.at.at ≡ None → tally params κ (from t here.at.at) p here ≡ here
+  tally_end t here p found = tally_none p here (found_none t here.at.at found)
 
 -- ---- some parts of n
 module _ (f : Count → Count) (n i : ℕ) (c : Count) where
@@ -107,11 +112,11 @@ module _ (t : List ℕ) where
     unfolding or_over
     functions_on h l = functions_first h ∙ rw (le-leb (function_at t f z).count.steps most l) refl
 
-    pub functions_over : f < n → most < (function_at t f z).count.steps → functions_from t (n - f) f z ≡ outcome (Over z.count.at.at) (function_at t f z).depths
+    pub functions_over : f < n → most < (function_at t f z).count.steps → functions_from t (n - f) f z ≡ outcome (refuse 12 z.count.at.at) (function_at t f z).depths
     unfolding or_over
     functions_over h l = functions_first h ∙ rw (lt-leb (function_at t f z).count.steps most l) refl
 
-    pub functions_end : n ≤ f → functions_from t (n - f) f z ≡ outcome (Within (hold z.count.records) (hold z.count.steps)) z.depths
+    pub functions_end : n ≤ f → functions_from t (n - f) f z ≡ outcome (Ok (announced (hold z.count.records) (hold z.count.steps))) z.depths
     unfolding functions_from
     functions_end h =
         let e : n - f ≡ 0 = omega arith in

@@ -10,8 +10,7 @@ use Rattle.tape.specs.Steps.{most}
 use Rattle.tape.specs.Held.{hold}
 use Rattle.costing.specs.Counting.{count, statement}
 use Rattle.costing.specs.declared.count.Count.{Count}
-use Rattle.costing.specs.declared.Cost.{Cost}
-use Rattle.costing.specs.declared.Cost.TheVariants.{Within, Over}
+use Rattle.translation.specs.Compile.{Compiled, announced}
 use Rattle.std.specs.Prelude.{Ok, Err}
 use Rattle.word.specs.Refusals.{refuse}
 
@@ -41,20 +40,20 @@ module _ (t : List ℕ) where
 
 -- what the count leaves
 pub record Outcome : Type 0 where
-  pub cost : Cost
+  pub cost : Compiled
   pub depths : List ℕ
 
-abbrev pub outcome : Cost → List ℕ → Outcome
+abbrev pub outcome : Compiled → List ℕ → Outcome
 outcome cost depths = record { cost = cost; depths = depths }
 
 -- 12: a function's steps are over the limit, at its FUNC
 unfoldable pub or_over : Bool → ℕ → Totals → Outcome → Outcome
 or_over true at z rest = rest
-or_over false at z rest = outcome (Over at) z.depths
+or_over false at z rest = outcome (refuse 12 at) z.depths
 
 -- functions f and so many after it
 unfoldable pub functions_from : List ℕ → ℕ → ℕ → Totals → Outcome
-functions_from t zero f z = outcome (Within (hold z.count.records) (hold z.count.steps)) z.depths
+functions_from t zero f z = outcome (Ok (announced (hold z.count.records) (hold z.count.steps))) z.depths
 functions_from t (suc n) f z =
     or_over (leb (function_at t f z).count.steps most) z.count.at.at (function_at t f z) (functions_from t n (f + 1) (function_at t f z))
 
@@ -65,6 +64,6 @@ counted t depths =
     functions_from t (heading t).functions 0 (totals (count first first 0 0) (replicate 16 0) (replicate 16 0) depths)
 
 -- what 12 says of a program, and the figures that go with it
-unfoldable pub cost_of : First → ℕ → ℕ → Cost
-cost_of (Ok u) records steps = Within records steps
-cost_of (Err r) records steps = Over r.place
+unfoldable pub cost_of : First → ℕ → ℕ → Compiled
+cost_of (Ok u) records steps = Ok (announced records steps)
+cost_of (Err r) records steps = refuse 12 r.place

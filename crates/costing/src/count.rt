@@ -1,16 +1,15 @@
 // What is counted, and an expression counted by its records.
 ghost use Rattle.std.specs.Prelude.{◌≡◌};
-ghost use Rattle.scoping.specs.Passes.{params_of};
-ghost use Rattle.costing.specs.Counting.{plus, weight, expression};
+ghost use Rattle.costing.specs.Counting.{moved, plus, deeper, weight, expression};
 
 use scoping::passes::arity;
 use tape::held::{more, sum};
 use word::Record;
-use word::reader::{Read, Reader};
+use word::reader::Reader;
 
 // The record that is read next; the core records and the steps so far, held at one more than the limit; and the deepest IF nesting. All fields have one width, because
 // what is written narrow and read wide again makes the processor wait, here at each statement.
-#[derive(Clone, Copy)]
+#[derive(Clone, Copy, Debug, PartialEq, Eq)]
 pub struct Count {
     pub at: Reader,
     pub records: usize,
@@ -18,61 +17,75 @@ pub struct Count {
     pub deepest: usize,
 }
 
-// So many core records and steps more.
-pub fn plus(c: Count, records: u32, steps: u32) -> Count
-    ensures { result ≡ plus records steps c }
-{
-    let at = c.at;
-    Count {
-        at,
-        records: more(c.records, records),
-        steps: more(c.steps, steps),
-        deepest: c.deepest,
+impl Count {
+    // At another record.
+    pub fn moved(self, at: Reader) -> Count
+        ensures { result ≡ moved at.at self }
+    {
+        Count { at, ..self }
+    }
+
+    // So many core records and steps more.
+    #[tactic(auto, unfolding(crate::specs::Counting::plus))]
+    pub fn plus(self, records: u32, steps: u32) -> Count
+        ensures { result ≡ plus records steps self }
+    {
+        Count {
+            records: more(self.records, records),
+            steps: more(self.steps, steps),
+            ..self
+        }
+    }
+
+    // At least so many IFs deep.
+    #[tactic(auto, unfolding(crate::specs::Counting::deeper))]
+    pub fn deeper(self, ifs: usize) -> Count
+        ensures { result ≡ deeper ifs self }
+    {
+        Count {
+            deepest: self.deepest.max(ifs),
+            ..self
+        }
     }
 }
 
-// What a row says of function f: nothing, so 0, of one that it has no place for.
-fn said(row: &[u32; 16], f: u32) -> u32
-    ensures { result ≡ params_of row.now f }
-{
-    let i = f as usize;
-    if i < 16 { row[i] } else { 0 }
+// What is known of the functions so far: how many parameters each takes, and its steps, held.
+#[derive(Clone, Copy, Debug, PartialEq, Eq)]
+pub struct Known {
+    pub params: [u32; 16],
+    pub steps: [u32; 16],
 }
 
-// The steps that an expression's own record counts: a literal's none, CALL's those of its function too.
-#[tactic(auto, using(std::proofs::lemmas::Bool::Decides::nat_tests), unfolding(crate::specs::Counting::weight))]
-fn weight(x: Record, steps: &[u32; 16]) -> u32
-    ensures { result ≡ weight steps.now x }
-{
-    if x.kind <= 22 {
-        return 0;
+impl Known {
+    // The steps that an expression's own record counts: a literal's none, CALL's those of its function too.
+    #[tactic(auto, using(std::proofs::lemmas::Bool::Decides::nat_tests), unfolding(crate::specs::Counting::weight, scoping::specs::Passes::params_of))]
+    fn weight(&self, x: Record) -> u32
+        ensures { result ≡ weight self.now.steps x }
+    {
+        if x.kind <= 22 {
+            return 0;
+        }
+        if x.kind <= 27 {
+            return 1;
+        }
+        let called = self.steps.get(x.p as usize).copied().unwrap_or(0);
+        sum(1, called)
     }
-    if x.kind <= 27 {
-        1
-    } else {
-        sum(1, said(steps, x.p))
-    }
-}
 
-// The expression where the count stands: each record by itself, until no part is left. An expression has as many records on the tape as in the table.
-pub fn expression(table: &[u32], params: &[u32; 16], steps: &[u32; 16], from: Count) -> Count
-    ensures { result ≡ expression params.now steps.now table.now from }
-{
-    let mut here = from;
-    let mut parts = 1u32;
-    while 0 < parts {
-        let at = here.at;
-        let Read::Found(x, next) = at.next(table) else {
-            return here;
-        };
-        let one = plus(here, 1, weight(x, steps));
-        here = Count {
-            at: next,
-            records: one.records,
-            steps: one.steps,
-            deepest: one.deepest,
-        };
-        parts = sum(parts - 1, arity(params, x));
+    // The expression where the count stands: each record by itself, until no part is left. An expression has as many records on the tape as in the table.
+    #[tactic(auto, using(crate::proofs::Turns::tally_over, crate::proofs::Turns::tally_end), unfolding(crate::specs::Counting::expression))]
+    pub fn expression(&self, table: &[u32], from: Count) -> Count
+        ensures { result ≡ expression self.now.params self.now.steps table.now from }
+    {
+        let mut here = from;
+        let mut parts = 1u32;
+        while 0 < parts {
+            let Some((x, next)) = here.at.next(table) else {
+                return here;
+            };
+            here = here.plus(1, self.weight(x)).moved(next);
+            parts = sum(parts - 1, arity(&self.params, x));
+        }
+        here
     }
-    here
 }

@@ -8,33 +8,25 @@ mod statement;
 ghost use Rattle.std.specs.Prelude.{◌≡◌};
 ghost use Rattle.costing.specs.Totals.{totals, outcome, function_at, functions_from, counted};
 
-use count::Count;
+use count::{Count, Known};
 use scoping::passes::{note, program};
-use statement::statement;
 use tape::held::{more, short};
-use word::reader::Read;
-
-// The records needed and the exposed function's steps; or the FUNC of the first function that takes over a thousand million.
-#[derive(Clone, Copy)]
-pub enum Cost {
-    Within { records: u32, steps: u32 },
-    Over(usize),
-}
+use translation::Tape;
+use word::Refusal;
 
 // Function f, with six records of its own and three steps; and what is kept of it for the later ones.
+#[tactic(auto, using(crate::proofs::Turns::function_end, crate::proofs::Turns::function_found), unfolding(crate::specs::Totals::body_at, crate::specs::Totals::keeping))]
 fn function(
     table: &[u32],
-    params: &mut [u32; 16],
-    steps: &mut [u32; 16],
+    known: &mut Known,
     depths: &mut [u32; 16],
     from: Count,
     f: usize,
 ) -> Count
-    ensures { totals result params.new steps.new depths.new
-        ≡ function_at table.now f (totals from params.old steps.old depths.old) }
+    ensures { totals result known.new.params known.new.steps depths.new
+        ≡ function_at table.now f (totals from known.old.params known.old.steps depths.old) }
 {
-    let at = from.at;
-    let Read::Found(x, next) = at.next(table) else {
+    let Some((x, next)) = from.at.next(table) else {
         return from;
     };
     let start = Count {
@@ -43,9 +35,9 @@ fn function(
         steps: 3,
         deepest: 0,
     };
-    let body = statement(table, params, steps, start, 0, 16);
-    note(params, f, x.p);
-    note(steps, f, short(body.steps));
+    let body = known.statement(table, start, 0, 16);
+    note(&mut known.params, f, x.p);
+    note(&mut known.steps, f, short(body.steps));
     note(depths, f, short(body.deepest));
     body
 }
@@ -54,36 +46,35 @@ fn function(
 const LIMIT: usize = 1000000000;
 
 // The functions one after another, to the first that is over the limit.
+#[tactic(auto, using(crate::proofs::Turns::functions_on, crate::proofs::Turns::functions_over, crate::proofs::Turns::functions_end))]
 fn functions(
     table: &[u32],
-    params: &mut [u32; 16],
-    steps: &mut [u32; 16],
+    known: &mut Known,
     depths: &mut [u32; 16],
     from: Count,
     n: usize,
-) -> Cost
+) -> Result<Tape, Refusal>
     ensures { outcome result depths.new
-        ≡ functions_from table.now n 0 (totals from params.old steps.old depths.old) }
+        ≡ functions_from table.now n 0 (totals from known.old.params known.old.steps depths.old) }
 {
     let mut here = from;
-    let mut f = 0usize;
-    while f < n {
-        let next = function(table, params, steps, depths, here, f);
+    for f in 0..n {
+        let next = function(table, known, depths, here, f);
         if LIMIT < next.steps {
-            let place = here.at;
-            return Cost::Over(place.at);
+            return Err(here.at.refusal(12));
         }
         here = next;
-        f += 1;
     }
-    Cost::Within {
-        records: short(here.records),
+    Ok(Tape {
+        records: short(here.records) as usize,
         steps: short(here.steps),
-    }
+    })
 }
 
-// The whole table. PROGRAM and the arrays have a record each, so before the first function there are as many as it has before it in the table.
-pub fn measure(table: &[u32], depths: &mut [u32; 16]) -> Cost
+// What the tape of the whole table comes to, and the deepest IF nestings. PROGRAM and the arrays have a record each, so before the first function there are as many as it
+// has before it in the table.
+#[tactic(auto, unfolding(crate::specs::Totals::counted))]
+pub fn measure(table: &[u32], depths: &mut [u32; 16]) -> Result<Tape, Refusal>
     ensures { outcome result depths.new ≡ counted table.now depths.old }
 {
     let heading = program(table);
@@ -94,14 +85,9 @@ pub fn measure(table: &[u32], depths: &mut [u32; 16]) -> Cost
         steps: 0,
         deepest: 0,
     };
-    let mut params = [0u32; 16];
-    let mut steps = [0u32; 16];
-    functions(
-        table,
-        &mut params,
-        &mut steps,
-        depths,
-        start,
-        heading.functions as usize,
-    )
+    let mut known = Known {
+        params: [0; 16],
+        steps: [0; 16],
+    };
+    functions(table, &mut known, depths, start, heading.functions as usize)
 }

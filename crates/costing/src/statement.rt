@@ -1,174 +1,118 @@
 // Statements, counted by the figures of their translation.
-ghost use Rattle.std.specs.Prelude.{◌≡◌, ℕ, suc, ◌+◌, ◌-◌, ◌≤◌, max};
+ghost use Rattle.std.specs.Prelude.{◌≡◌, ℕ, suc, ◌+◌, ◌-◌, ◌≤◌};
 ghost use Rattle.script.specs.Table.{read_s};
 ghost use Rattle.costing.specs.Counting.{plus, deeper, opened, closed, expression, masked, putting, head, statement};
+ghost use Rattle.costing.specs.declared.count.Count.{Count};
 
-use crate::count::{Count, expression, plus};
+use crate::count::{Count, Known};
 use tape::held::{more, short, with_loop};
 use word::Record;
-use word::reader::Read;
 
-// SET and RETURN: a mask or a context twice, and what is done with them.
-fn masked(table: &[u32], params: &[u32; 16], steps: &[u32; 16], from: Count, ifs: u32) -> Count
-    requires { ifs ≤ 16 }
-    ensures { result ≡ masked ifs (expression params.now steps.now table.now from) }
-{
-    let e = expression(table, params, steps, from);
-    plus(e, 4 * ifs + 12, 4 * ifs + 10)
-}
+impl Count {
+    // SET, PUT and RETURN behind their expressions: a mask or a context twice, and what is done with them.
+    #[tactic(auto, unfolding(crate::specs::Counting::masked))]
+    fn masked(self, ifs: u32) -> Count
+        requires { ifs ≤ 16 }
+        ensures { result ≡ masked ifs self }
+    {
+        self.plus(4 * ifs + 12, 4 * ifs + 10)
+    }
 
-// PUT: the index is written twice.
-fn put(table: &[u32], params: &[u32; 16], steps: &[u32; 16], from: Count, ifs: u32) -> Count
-    requires { ifs ≤ 16 }
-    ensures { result ≡ putting params.now steps.now table.now ifs from }
-{
-    let index = from.at;
-    let i = expression(table, params, steps, from);
-    let e = expression(table, params, steps, i);
-    let after = e.at;
-    let second = Count {
-        at: index,
-        records: e.records,
-        steps: e.steps,
-        deepest: e.deepest,
-    };
-    let again = expression(table, params, steps, second);
-    let both = Count {
-        at: after,
-        records: again.records,
-        steps: again.steps,
-        deepest: again.deepest,
-    };
-    plus(both, 4 * ifs + 12, 4 * ifs + 10)
-}
-
-// A statement that holds no other: SKIP, DEF, SET, PUT or RETURN, whose record was read.
-fn single(
-    table: &[u32],
-    params: &[u32; 16],
-    steps: &[u32; 16],
-    here: Count,
-    ifs: u32,
-    x: Record,
-) -> Count
-    requires { (ifs ≤ 16) × (x.kind ≡ 31 → ⊥) × (x.kind ≡ 35 → ⊥) × (x.kind ≡ 36 → ⊥) }
-    ensures { (f : ℕ → Count → Count) → result ≡ head params.now steps.now table.now f ifs here (read_s x) }
-{
-    let kind = x.kind;
-    match kind {
-        30 => here,
-        32 => {
-            let e = expression(table, params, steps, here);
-            plus(e, 1, 1)
+    // Before a FOR's body, whose steps are counted by themselves.
+    #[tactic(auto, unfolding(crate::specs::Counting::opened))]
+    fn opened(self) -> Count
+        ensures { result ≡ opened self }
+    {
+        Count {
+            records: more(self.records, 2),
+            steps: 0,
+            ..self
         }
-        33 => masked(table, params, steps, here, ifs),
-        34 => put(table, params, steps, here, ifs),
-        _ => masked(table, params, steps, here, ifs),
+    }
+
+    // After it, where so many steps were before: each of the loop's passes, "q, q+1, .. r−1", takes the body's steps and FOR's one.
+    #[tactic(auto, using(tape::proofs::Counts::hold_loop), unfolding(crate::specs::Counting::closed))]
+    fn closed(self, before: usize, q: u32, r: u32) -> Count
+        ensures { result ≡ closed before (r - q) self }
+    {
+        let steps = with_loop(short(before), r.saturating_sub(q), short(self.steps));
+        Count {
+            steps: steps as usize,
+            ..self
+        }
     }
 }
 
-// IF's condition, its DEF and, between the branches, its `~`; they lie one IF deeper.
-fn condition(table: &[u32], params: &[u32; 16], steps: &[u32; 16], from: Count, ifs: u32) -> Count
-    ensures { result ≡ deeper (suc ifs) (plus 4 4 (expression params.now steps.now table.now from)) }
-{
-    let e = expression(table, params, steps, from);
-    let c = plus(e, 4, 4);
-    let at = c.at;
-    Count {
-        at,
-        records: c.records,
-        steps: c.steps,
-        deepest: deepest(c.deepest, ifs as usize + 1),
+impl Known {
+    // PUT: the index is written twice.
+    #[tactic(auto, unfolding(crate::specs::Counting::putting))]
+    fn put(&self, table: &[u32], from: Count, ifs: u32) -> Count
+        requires { ifs ≤ 16 }
+        ensures { result ≡ putting self.now.params self.now.steps table.now ifs from }
+    {
+        let index = self.expression(table, from);
+        let value = self.expression(table, index);
+        let again = self.expression(table, value.moved(from.at));
+        again.moved(value.at).masked(ifs)
     }
-}
 
-fn deepest(a: usize, b: usize) -> usize
-    ensures { result ≡ max a b }
-{
-    if a < b { b } else { a }
-}
-
-// How often a FOR goes round: "q, q+1, .. r−1".
-fn passes(q: u32, r: u32) -> u32
-    ensures { result ≡ r - q }
-{
-    if q < r { r - q } else { 0 }
-}
-
-// Before a FOR's body, whose steps are counted by themselves.
-fn open_loop(from: Count) -> Count
-    ensures { result ≡ opened from }
-{
-    let at = from.at;
-    Count {
-        at,
-        records: more(from.records, 2),
-        steps: 0,
-        deepest: from.deepest,
+    // A statement that holds no other: SKIP, DEF, SET, PUT or RETURN, whose record was read.
+    #[tactic(auto, unfolding(script::specs::Table::read_s, crate::specs::Counting::head))]
+    fn single(&self, table: &[u32], here: Count, ifs: u32, x: Record) -> Count
+        requires { (ifs ≤ 16) × (x.kind ≡ 31 → ⊥) × (x.kind ≡ 35 → ⊥) × (x.kind ≡ 36 → ⊥) }
+        ensures { (f : ℕ → Count → Count) → result ≡ head self.now.params self.now.steps table.now f ifs here (read_s x) }
+    {
+        let kind = x.kind;
+        match kind {
+            30 => here,
+            32 => self.expression(table, here).plus(1, 1),
+            33 => self.expression(table, here).masked(ifs),
+            34 => self.put(table, here, ifs),
+            _ => self.expression(table, here).masked(ifs),
+        }
     }
-}
 
-// After it: each pass takes the body's steps and FOR's one.
-fn close_loop(body: Count, before: usize, q: u32, r: u32) -> Count
-    ensures { result ≡ closed before (r - q) body }
-{
-    let at = body.at;
-    let steps = with_loop(short(before), passes(q, r), short(body.steps));
-    Count {
-        at,
-        records: body.records,
-        steps: steps as usize,
-        deepest: body.deepest,
+    // IF's condition, its DEF and, between the branches, its `~`; they lie one IF deeper.
+    fn condition(&self, table: &[u32], from: Count, ifs: u32) -> Count
+        ensures { result ≡ deeper (suc ifs) (plus 4 4 (expression self.now.params self.now.steps table.now from)) }
+    {
+        self.expression(table, from)
+            .plus(4, 4)
+            .deeper(ifs as usize + 1)
     }
-}
 
-// The statement where the count stands, with `ifs` IFs round it, which may hold others to the depth `left`, itself counted.
-pub(crate) fn statement(
-    table: &[u32],
-    params: &[u32; 16],
-    steps: &[u32; 16],
-    from: Count,
-    ifs: u32,
-    left: u32,
-) -> Count
-    requires { ifs + left ≤ 16 }
-    ensures { result ≡ statement params.now steps.now table.now left ifs from }
-{
-    if left == 0 {
-        return from;
-    }
-    let at = from.at;
-    let Read::Found(x, next) = at.next(table) else {
-        return from;
-    };
-    let here = Count {
-        at: next,
-        records: from.records,
-        steps: from.steps,
-        deepest: from.deepest,
-    };
-    let kind = x.kind;
-    match kind {
-        31 => {
-            let parts = x.p;
-            let mut last = here;
-            let mut i = 0u32;
-            while i < parts {
-                last = statement(table, params, steps, last, ifs, left - 1);
-                i += 1;
+    // The statement where the count stands, with `ifs` IFs round it, which may hold others to the depth `left`, itself counted.
+    #[tactic(auto, using(crate::proofs::Turns::times_more, crate::proofs::Turns::times_over, crate::proofs::Turns::statement_none, crate::proofs::Turns::statement_end, crate::proofs::Turns::statement_found), unfolding(script::specs::Table::read_s, crate::specs::Counting::head, crate::specs::Counting::branching))]
+    pub(crate) fn statement(&self, table: &[u32], from: Count, ifs: u32, left: u32) -> Count
+        requires { ifs + left ≤ 16 }
+        ensures { result ≡ statement self.now.params self.now.steps table.now left ifs from }
+    {
+        if left == 0 {
+            return from;
+        }
+        let Some((x, next)) = from.at.next(table) else {
+            return from;
+        };
+        let here = from.moved(next);
+        let kind = x.kind;
+        match kind {
+            31 => {
+                let parts = x.p;
+                let mut last = here;
+                for i in 0..parts {
+                    last = self.statement(table, last, ifs, left - 1);
+                }
+                last
             }
-            last
+            35 => self
+                .statement(table, here.opened(), ifs, left - 1)
+                .closed(from.steps, x.q, x.r),
+            36 => {
+                let first = self.condition(table, here, ifs);
+                let then = self.statement(table, first, ifs + 1, left - 1);
+                self.statement(table, then, ifs + 1, left - 1)
+            }
+            _ => self.single(table, here, ifs, x),
         }
-        35 => {
-            let open = open_loop(here);
-            let body = statement(table, params, steps, open, ifs, left - 1);
-            close_loop(body, from.steps, x.q, x.r)
-        }
-        36 => {
-            let first = condition(table, params, steps, here, ifs);
-            let then = statement(table, params, steps, first, ifs + 1, left - 1);
-            statement(table, params, steps, then, ifs + 1, left - 1)
-        }
-        _ => single(table, params, steps, here, ifs, x),
     }
 }

@@ -1,28 +1,30 @@
 // The emitter: a cursor that writes core records one after another and hands itself back. Where there is no room it writes nothing and goes on all the same.
 ghost use Rattle.std.specs.Prelude.{◌≡◌, ltb};
-ghost use Rattle.word.specs.Records.{rec, records};
-ghost use Rattle.emitting.specs.Emitting.{words_if, sheet, place};
+ghost use Rattle.word.specs.Records.{records};
+ghost use Rattle.tape.specs.Named.{named};
+ghost use Rattle.emitting.specs.Emitting.{words_if, sheet, place, puts};
 
 use tape::held::more;
-
-pub const TRUE: u32 = 4294967295;
+use tape::instruction::Instruction;
+use word::Record;
 
 // The record that is written next, held at one more than the limit of 12. No tape has as many.
-#[derive(Clone, Copy)]
+#[derive(Clone, Copy, Debug, PartialEq, Eq)]
 pub struct Emitter {
     pub at: usize,
 }
 
-// Four words from record `at` on, where there is room for them.
-fn store(out: &mut [u32], at: usize, kind: u32, p: u32, q: u32, r: u32)
-    ensures { out.new ≡ words_if (ltb at (records out.old)) out.old at (rec kind p q r) }
+// The four words of record `at`, where there is room for them.
+#[tactic(auto, using(std::proofs::lemmas::Bool::Decides::nat_tests), unfolding(crate::specs::Emitting::words_if))]
+fn store(out: &mut [u32], at: usize, x: Record)
+    ensures { out.new ≡ words_if (ltb at (records out.old)) out.old at x }
 {
     if at < out.len() / 4 {
         let b = at * 4;
-        out[b] = kind;
-        out[b + 1] = p;
-        out[b + 2] = q;
-        out[b + 3] = r;
+        out[b] = x.kind;
+        out[b + 1] = x.p;
+        out[b + 2] = x.q;
+        out[b + 3] = x.r;
     }
 }
 
@@ -33,13 +35,22 @@ impl Emitter {
         Emitter { at: 0 }
     }
 
-    // One record.
-    pub fn put(self, out: &mut [u32], kind: u32, p: u32, q: u32, r: u32) -> Self
-        ensures { sheet out.new result ≡ place (rec kind p q r) (sheet out.old self) }
+    // A record as it stands.
+    #[tactic(auto, unfolding(crate::specs::Emitting::place))]
+    pub fn copy(self, out: &mut [u32], x: Record) -> Self
+        ensures { sheet out.new result ≡ place x (sheet out.old self) }
     {
-        store(out, self.at, kind, p, q, r);
+        store(out, self.at, x);
         Emitter {
             at: more(self.at, 1),
         }
+    }
+
+    // One record.
+    #[tactic(auto, unfolding(crate::specs::Emitting::puts))]
+    pub fn put(self, out: &mut [u32], i: Instruction) -> Self
+        ensures { sheet out.new result ≡ puts (named i) (sheet out.old self) }
+    {
+        self.copy(out, i.record())
     }
 }

@@ -1,21 +1,16 @@
 // Expressions, read in prefix order and written in postfix order: the parts first, then the record's own.
-ghost use Rattle.std.specs.Prelude.{◌≡◌, get_or};
+#![tactic(auto, using(std::proofs::lemmas::Bool::Decides::nat_tests), unfolding(script::specs::Table::read_e, tape::specs::Named::named, crate::specs::Walking::lowered_code, crate::specs::Walking::arity, crate::specs::Walking::own))]
+
+ghost use Rattle.std.specs.Prelude.{◌≡◌};
 ghost use Rattle.script.specs.Table.{read_e};
-ghost use Rattle.emitting.specs.Emitting.{sheet};
-ghost use Rattle.emitting.specs.Walking.{desk_of, lowered_code, arity, own, walk_e};
+ghost use Rattle.tape.specs.Named.{named};
+ghost use Rattle.emitting.specs.Emitting.{puts};
+ghost use Rattle.emitting.specs.Walking.{on, desk_of, lowered_code, arity, own, walk_e};
 
-use crate::emitter::{Emitter, TRUE};
 use crate::walk::Walk;
+use tape::instruction::Instruction;
 use word::Record;
-use word::reader::Read;
-
-// What a row says of function f: nothing, so 0, of one that it has no place for.
-pub fn entry(row: &[u32], f: u32) -> u32
-    ensures { result ≡ get_or row.now f 0 }
-{
-    let i = f as usize;
-    if i < row.len() { row[i] } else { 0 }
-}
+use word::operators::{FALSE, TRUE};
 
 // `&&` becomes `&`, and `||` becomes `|`.
 fn lowered(code: u32) -> u32
@@ -34,61 +29,46 @@ fn arity(x: Record, params: &[u32]) -> u32
 {
     let kind = x.kind;
     match kind {
-        20 => 0,
-        21 => 0,
-        22 => 0,
-        23 => 0,
-        24 => 1,
-        25 => 1,
-        26 => 1,
+        20..=23 => 0,
+        24..=26 => 1,
         27 => 2,
-        _ => entry(params, x.p),
+        _ => params.get(x.p as usize).copied().unwrap_or(0),
     }
 }
 
-// A record's own, behind its parts.
-fn own(x: Record, out: &mut [u32], to: Emitter) -> Emitter
-    ensures { sheet out.new result ≡ own (read_e x) (sheet out.old to) }
+// A record's own on the tape.
+fn own(x: Record) -> Instruction
+    ensures { puts (named result) ≡ own (read_e x) }
 {
     let kind = x.kind;
     match kind {
-        20 => to.put(out, 10, x.p, 0, 0),
-        21 => to.put(out, 10, TRUE, 0, 0),
-        22 => to.put(out, 10, 0, 0, 0),
-        23 => to.put(out, 11, x.p, 0, 0),
-        24 => to.put(out, 12, x.p, 0, 0),
-        25 => to.put(out, 13, 0, 0, 0),
-        26 => to.put(out, 13, 0, 0, 0),
-        27 => to.put(out, 14, lowered(x.p), 0, 0),
-        _ => to.put(out, 15, x.p, 0, 0),
+        20 => Instruction::Lit(x.p),
+        21 => Instruction::Lit(TRUE),
+        22 => Instruction::Lit(FALSE),
+        23 => Instruction::Var(x.p),
+        24 => Instruction::Get(x.p),
+        25 => Instruction::Not,
+        26 => Instruction::Not,
+        27 => Instruction::Bin(lowered(x.p)),
+        _ => Instruction::Call(x.p),
     }
 }
 
 // The expression where the walk stands, which may hold others to the depth `left`, itself counted.
+#[tactic(auto, using(crate::proofs::Stepping::times_more, crate::proofs::Stepping::times_over, crate::proofs::Stepping::walk_e_none, crate::proofs::Stepping::walk_e_end, crate::proofs::Stepping::walk_e_found))]
 pub fn expression(table: &[u32], params: &[u32], out: &mut [u32], from: Walk, left: u32) -> Walk
     ensures { desk_of out.new result ≡ walk_e params.now table.now left (desk_of out.old from) }
 {
     if left == 0 {
         return from;
     }
-    let at = from.reader;
-    match at.next(table) {
-        Read::End => from,
-        Read::Found(x, next) => {
-            let parts = arity(x, params);
-            let emitter = from.emitter;
-            let mut here = Walk {
-                reader: next,
-                emitter,
-            };
-            let mut i = 0u32;
-            while i < parts {
-                here = expression(table, params, out, here, left - 1);
-                i += 1;
-            }
-            let last = here.emitter;
-            let emitter = own(x, out, last);
-            here.with(emitter)
-        }
+    let Some((x, next)) = from.reader.next(table) else {
+        return from;
+    };
+    let parts = arity(x, params);
+    let mut here = from.reading(next);
+    for i in 0..parts {
+        here = expression(table, params, out, here, left - 1);
     }
+    here.put(out, own(x))
 }

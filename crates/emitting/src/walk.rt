@@ -1,23 +1,40 @@
 // Where a walk over a table stands: the reader and the emitter.
 ghost use Rattle.std.specs.Prelude.{◌≡◌, List, ℕ};
-ghost use Rattle.emitting.specs.Emitting.{sheet};
-ghost use Rattle.emitting.specs.Walking.{desk, desk_of};
+ghost use Rattle.tape.specs.Named.{named};
+ghost use Rattle.emitting.specs.Emitting.{sheet, puts};
+ghost use Rattle.emitting.specs.Walking.{desk, desk_of, on};
 
 use crate::emitter::Emitter;
+use tape::instruction::Instruction;
 use word::reader::Reader;
 
-#[derive(Clone, Copy)]
+#[derive(Clone, Copy, Debug, PartialEq, Eq)]
 pub struct Walk {
     pub reader: Reader,
     pub emitter: Emitter,
 }
 
 impl Walk {
-    // With the emitter moved on.
+    // With the reader, or the emitter, moved on.
+    pub fn reading(self, reader: Reader) -> Self
+        ensures { (out : List ℕ) → desk_of out result ≡ desk (sheet out self.emitter) reader.at }
+    {
+        Walk { reader, ..self }
+    }
+
     pub fn with(self, emitter: Emitter) -> Self
         ensures { (out : List ℕ) → desk_of out result ≡ desk (sheet out emitter) self.reader.at }
     {
-        let reader = self.reader;
-        Walk { reader, emitter }
+        Walk { emitter, ..self }
+    }
+
+    // One record.
+    pub fn put(self, out: &mut [u32], i: Instruction) -> Self
+        ensures { desk_of out.new result ≡ on (puts (named i)) (desk_of out.old self) }
+    {
+        Walk {
+            emitter: self.emitter.put(out, i),
+            ..self
+        }
     }
 }

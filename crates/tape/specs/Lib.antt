@@ -11,3 +11,4 @@ pub mod Check
 pub mod Held
 pub mod Entries
 pub mod Rules
+pub mod Named

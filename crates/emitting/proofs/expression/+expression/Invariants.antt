@@ -1,7 +1,6 @@
--- The measure of the cycle of calls {expression} is `left`, the depth that is left. At the loop's head what is left of the walk over the
--- parts, from where it stands, is the walk over all of them. Assumes nothing.
-use Prim.Native.Nat.{◌-◌, ◌≤◌}
-use mathlib.Core.Path.{◌≡◌}
+-- `emitting::expression::expression`: the depth that is left falls. At the loop's head what is left of the walk over the parts, from where it stands, is the walk over
+-- all of them. Assumes nothing.
+use Rattle.std.proofs.Common.{◌≡◌, ◌-◌}
 use Rattle.emitting.specs.Walking.{desk_of, times, walk_e}
 use Rattle.emitting.proofs.expression.+expression.Given as goal
 
@@ -10,8 +9,5 @@ decreases-expression l = l.left
 
 abbrev pub invariant-loop-i : goal.invariant-loop-i
 invariant-loop-i l =
-    (l.i ≤ l.parts) ×
-    (times (l.parts - l.i) (walk_e l.params l.table (l.left - 1)) (desk_of l.out l.here) ≡ times l.parts (walk_e l.params l.table (l.left - 1)) (desk_of l.initial.out l.initial.here))
-
-abbrev pub decreases-loop-i : goal.decreases-loop-i
-decreases-loop-i l = l.parts - l.i
+    times (l.parts - l.i) (walk_e l.params l.table (l.left - 1)) (desk_of l.out l.here)
+    ≡ times l.parts (walk_e l.params l.table (l.left - 1)) (desk_of l.initial.out l.initial.here)

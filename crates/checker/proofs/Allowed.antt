@@ -10,7 +10,9 @@ use Rattle.tape.specs.Instruction.{Instruction, read}
 use Rattle.tape.specs.Scan.{Scan, known_at}
 use Rattle.tape.specs.Faults.{takes, asks, deep}
 use Rattle.checker.specs.declared.standing.Standing.{Standing}
-use Rattle.checker.specs.Standing.{Functions, Bodies, due_of, known_of, scan_of}
+use Rattle.checker.specs.declared.standing.Functions.{Functions}
+use Rattle.checker.specs.declared.standing.Bodies.{Bodies}
+use Rattle.checker.specs.Standing.{due_of, known_of, scan_of}
 use Rattle.checker.specs.Ready.{Room, Within, Ready}
 use Rattle.tape.proofs.Cases.{read_call, read_def, read_for, read_end}
 use Rattle.checker.proofs.Clear.{Met, met}

@@ -1,6 +1,5 @@
--- Which words of a record must be 0 (24), by its kind; and the last kind of a range. Assumes nothing.
-use Prim.Native.Nat.{ℕ, ◌+◌, ◌≤◌}
-use native.Mathlib.Omega.{arith}
+-- Which words of a record must be 0 (24), by its kind. Assumes nothing.
+use Prim.Native.Nat.{ℕ}
 use mathlib.Core.Path.{◌≡◌, refl}
 use mathlib.Core.Bool.{true, ◌&&◌}
 use borrow.Author.Tests.{eq-eqb}
@@ -25,10 +24,3 @@ module _ (x : Record) where
   pub blank : (k : ℕ) → x.kind ≡ k → same x (rec k 0 0 0) ≡ eqb x.p 0 && (eqb x.q 0 && eqb x.r 0)
   unfolding same
   blank k e = rw (eq-eqb _ k e)
-
--- a kind in a range that is none of the first ones is the last
-pub last_of_five : (a k : ℕ) → a ≤ k → k ≤ a + 4 → (k ≡ a → ⊥) → (k ≡ a + 1 → ⊥) → (k ≡ a + 2 → ⊥) → (k ≡ a + 3 → ⊥) → k ≡ a + 4
-last_of_five a k l h n₀ n₁ n₂ n₃ = omega arith
-
-pub last_of_six : (a k : ℕ) → a ≤ k → k ≤ a + 5 → (k ≡ a → ⊥) → (k ≡ a + 1 → ⊥) → (k ≡ a + 2 → ⊥) → (k ≡ a + 3 → ⊥) → (k ≡ a + 4 → ⊥) → k ≡ a + 5
-last_of_six a k l h n₀ n₁ n₂ n₃ n₄ = omega arith

@@ -1,14 +1,16 @@
--- A record that has no fault meets every test; and the code's two parts of a fault, the slot rule last, are the whole. Assumes nothing.
+-- A record that has no fault meets every test; the code's two parts of a fault, the slot rule last, are the whole; and what an answer says of a
+-- fault's number. Assumes nothing.
 use Prim.Native.Nat.{ℕ, zero, suc}
 use native.Mathlib.Omega.{arith}
-use mathlib.Core.Path.{◌≡◌, refl, ap, ◌∙◌}
-use mathlib.Core.Bool.{Bool, true, false}
+use mathlib.Core.Path.{◌≡◌, refl, sym, ap, ◌∙◌}
+use mathlib.Core.Bool.{Bool, true, false, true≢false, false≢true}
+use Rattle.std.specs.Prelude.{Result, Ok, Err, is_err}
 use Rattle.word.specs.Records.{same}
 use Rattle.word.specs.declared.Record.{Record}
 use Rattle.tape.specs.Instruction.{read, write}
-use Rattle.tape.specs.Scan.{Due, Scan}
+use Rattle.tape.specs.Scan.{Scan}
 use Rattle.tape.specs.Faults.{Asked, due, more, asks, unless, unmet, fault}
-use Rattle.checker.specs.Ready.{fields_fault, fault_but}
+use Rattle.checker.specs.Ready.{faulty, fields_fault, fault_but}
 
 pub record Met (s : Scan) (x : Record) : Type 0 where
   pub more : more s.due ≡ true
@@ -89,7 +91,23 @@ module _ (s : Scan) (x : Record) where
   unfolding first_of
   fault_last e = fault_split ∙ rw e refl
 
-  -- by what is due
-  pub fault_by : (d : Due) → s.due ≡ d → fault_but s x ≡ unless (more d) 26 (unless (due d x.kind) 22 (fields_fault s x))
-  unfolding fault_but
-  fault_by d e = ap (λ (t : Due). unless (more t) 26 (unless (due t x.kind) 22 (fields_fault s x))) e
+-- ---- what an answer says of a fault's number
+pub faulty_none : (n : ℕ) (r : Result (Unit {0}) ℕ) → r ≡ faulty n → is_err r ≡ false → n ≡ 0
+unfolding faulty
+faulty_none zero r is e = refl
+faulty_none (suc n) r is e = absurd (true≢false (sym (ap is_err is) ∙ e))
+
+pub faulty_some : (n : ℕ) (r : Result (Unit {0}) ℕ) → r ≡ faulty n → is_err r ≡ true → n ≡ 0 → ⊥
+unfolding faulty
+faulty_some zero r is e h = false≢true (sym (ap is_err is) ∙ e)
+faulty_some (suc n) r is e h = omega arith
+
+pub faulty_number : (n k : ℕ) → Err k ≡ faulty n → k ≡ n
+unfolding faulty
+faulty_number zero k e = cc
+faulty_number (suc n) k e = cc
+
+pub faulty_ok : (n : ℕ) (r : Result (Unit {0}) ℕ) → r ≡ faulty n → is_err r ≡ false → r ≡ Ok tt
+unfolding faulty
+faulty_ok zero r is e = is
+faulty_ok (suc n) r is e = absurd (true≢false (sym (ap is_err is) ∙ e))

@@ -12,12 +12,11 @@ use Rattle.tape.specs.Instruction.{Instruction, program, array, cfunc, lit, var,
 use Rattle.tape.specs.Steps.{most}
 use Rattle.tape.specs.Scan.{Known, Open, Scan, known_at, leaves, states, opens, close_by, closes, in_body, arrayed, enters, returns, next}
 use Rattle.tape.specs.Faults.{more, takes, just, asks, fault}
-use Rattle.tape.specs.Check.{unless_over, within, at_end, judge, scan}
-use Rattle.tape.specs.Check.{Checked}
+use Rattle.tape.specs.Check.{Checked, unless_over, within, at_end, judge, scan}
+use Rattle.std.specs.Prelude.{Ok}
 use Rattle.checker.specs.Ready.{Within}
 use Rattle.tape.specs.Held.{hold, hold_known, hold_open, held}
 use Rattle.tape.proofs.Counts.{hold_within, hold_add, hold_add_right, hold_hold, hold_suc, hold_loop, hold_leb}
-use Rattle.std.specs.Prelude.{Ok, Err}
 
 abbrev nobody : Known
 nobody = record { params = 0; steps = 0; place = 0 }

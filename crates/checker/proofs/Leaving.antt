@@ -5,11 +5,14 @@ use mathlib.Core.Path.{◌≡◌, refl, sym, ap, ◌∙◌}
 use mathlib.Core.Bool.{Bool, true, false, not, ◌||◌, or-true}
 use borrow.Author.Tests.{lt-ltb}
 use lib.Dec.{ltb}
+use Rattle.word.specs.Slots.{hidden}
 use Rattle.word.specs.declared.Record.{Record}
 use Rattle.tape.specs.Scan.{Scan}
 use Rattle.tape.specs.Faults.{unless, fault}
 use Rattle.checker.specs.declared.standing.Standing.{Standing}
-use Rattle.checker.specs.Standing.{Functions, Bodies, rank, shown_by, searched_of, least_of, most_of, scope_at, scan_of}
+use Rattle.checker.specs.declared.standing.Functions.{Functions}
+use Rattle.checker.specs.declared.standing.Bodies.{Bodies}
+use Rattle.checker.specs.Standing.{rank, shown_by, searched_of, least_of, most_of, scope_at, scan_of}
 use Rattle.checker.specs.Ready.{fault_but}
 use Rattle.checker.proofs.Search.{shown_here}
 use Rattle.checker.proofs.SlotRule.{between, slot_rule}
@@ -17,12 +20,12 @@ use Rattle.checker.proofs.Clear.{fault_last}
 use Rattle.checker.proofs.Bounds.{kinds_clear}
 
 -- body d shows the slot: that is what is visible in it
-pub body_shows : (p : ℕ) (b : Bodies) (x d : ℕ) → 0 < d → (rank (shown_by b.slots b.defs d x) ≡ 0 → ⊥) → scope_at p b d x ≡ shown_by b.slots b.defs d x
+pub body_shows : (p : ℕ) (b : Bodies) (x d : ℕ) → 0 < d → (shown_by b d x ≡ hidden → ⊥) → scope_at p b d x ≡ shown_by b d x
 body_shows p b x d h k =
     let e : d ≡ suc (d - 1) = omega arith in
     ap (λ (n : ℕ). scope_at p b n x) e
-    ∙ shown_here p b (d - 1) x (λ z. k (ap (λ (n : ℕ). rank (shown_by b.slots b.defs n x)) e ∙ z))
-    ∙ ap (λ (n : ℕ). shown_by b.slots b.defs n x) (sym e)
+    ∙ shown_here p b (d - 1) x (λ z. k (ap (λ (n : ℕ). shown_by b n x) e ∙ z))
+    ∙ ap (λ (n : ℕ). shown_by b n x) (sym e)
 
 over_most : (low high n : ℕ) → high < n → between low high n ≡ false
 over_most low high n h = rw (lt-ltb high n h) (ap not (or-true (ltb n low)))

@@ -1,9 +1,8 @@
--- What the functions' proofs share: Blanks (24), Sets (slots as bits), Held, Awaited, Rows, Search, SlotRule (29), Clear, Bounds, Stores, Allowed, Walk (the
+-- What the functions' proofs share: Blanks (24), Sets (slots as bits), Held, Rows, Search, SlotRule (29), Clear, Bounds, Stores, Allowed, Walk (the
 -- scan, record by record), Scanned (its state stands for the scan's), Leaving, Ways (through the scan's loops).
 pub mod Blanks
 pub mod Sets
 pub mod Held
-pub mod Awaited
 pub mod Rows
 pub mod Search
 pub mod SlotRule

@@ -14,7 +14,9 @@ use lib.Seq.{get_or-set_same, get_or-set_other, get_or_at}
 use lib.Dec.{ltb, eqb}
 use Rattle.word.specs.Slots.{here, upd, Seen, hidden, fixed, defined, begin}
 use Rattle.tape.specs.Scan.{Known}
-use Rattle.checker.specs.Standing.{Functions, Bodies, bodies, has, insert, onto, shown_by, known_of, known_to, scope_at, opens_at}
+use Rattle.checker.specs.declared.standing.Functions.{Functions}
+use Rattle.checker.specs.declared.standing.Bodies.{Bodies}
+use Rattle.checker.specs.Standing.{has, insert, onto, shown_by, known_of, known_to, scope_at, opens_at}
 use Rattle.checker.proofs.Sets.{has_insert, has_none}
 
 abbrev pub nobody : Known
@@ -110,45 +112,50 @@ unfolding here onto
 onto_fixed true t = refl
 onto_fixed false t = refl
 
+-- ---- the stores
+-- body d has this set of DEFs
+abbrev pub with_defs : Bodies → ℕ → ℕ → Bodies
+with_defs b d v = record b { defs = set b.defs d v }
+
 -- DEF: one slot more in the set of body d
-module _ (p : ℕ) (slots passes counts defs : List ℕ) where
-  round : (d v : ℕ) → scope_at p (bodies slots passes counts (set defs (suc d) v)) d ≡ scope_at p (bodies slots passes counts defs) d
-  round d v = scope_frame p _ _ d (λ i l. refl) (store_past defs (suc d) v (suc d) (omega arith))
+abbrev pub def_body : Bodies → ℕ → ℕ → Bodies
+def_body b d x = with_defs b d (insert (get_or b.defs d 0) x)
 
-def_at : (p : ℕ) (slots passes counts defs : List ℕ) (d x y : ℕ) → x < 64 → d < length defs
-    → scope_at p (bodies slots passes counts (set defs d (insert (get_or defs d 0) x))) d y ≡ upd (scope_at p (bodies slots passes counts defs) d) x defined y
-unfolding scope_at shown_by upd
-def_at p slots passes counts defs zero x y h l =
-    rw (get_or-set_same defs 0 (insert (get_or defs 0 0) x) 0 l, has_insert (get_or defs 0 0) x y h) (or_here (eqb y x) (has (get_or defs 0 0) y) defined (begin p y))
-def_at p slots passes counts defs (suc d) x y h l =
-    let w = get_or defs (suc d) 0 in
-    let own = here (eqb y (get_or slots (suc d) 0)) fixed hidden in
-    let rest = scope_at p (bodies slots passes counts defs) d y in
-    rw (get_or-set_same defs (suc d) (insert w x) 0 l, has_insert w x y h, round p slots passes counts defs d (insert w x), or_here (eqb y x) (has w y) defined own, onto_here (eqb y x) (here (has w y) defined own) rest)
+-- FOR: a body more, past body d, whose slot is x; it makes n passes, and body d waits at k steps
+abbrev pub for_body : Bodies → ℕ → ℕ → ℕ → ℕ → Bodies
+for_body b d x n k =
+    record { slots = set b.slots (suc d) x; passes = set b.passes (suc d) n; counts = set b.counts d k; defs = set b.defs (suc d) 0 }
 
-pub scope_def : (p : ℕ) (slots passes counts defs : List ℕ) (d x : ℕ) → x < 64 → d < length defs
-    → scope_at p (bodies slots passes counts (set defs d (insert (get_or defs d 0) x))) d ≡ upd (scope_at p (bodies slots passes counts defs) d) x defined
-scope_def p slots passes counts defs d x h l = fun_ext (λ y. def_at p slots passes counts defs d x y h l)
+module _ (p : ℕ) (b : Bodies) where
+  round : (d v : ℕ) → scope_at p (with_defs b (suc d) v) d ≡ scope_at p b d
+  round d v = scope_frame p _ _ d (λ i l. refl) (store_past b.defs (suc d) v (suc d) (omega arith))
 
--- FOR: a body more, whose slot is fixed
-for_at : (p : ℕ) (slots passes counts defs : List ℕ) (d x n k y : ℕ) → suc d < length slots → suc d < length defs
-    → scope_at p (bodies (set slots (suc d) x) (set passes (suc d) n) (set counts d k) (set defs (suc d) 0)) (suc d) y
-    ≡ upd (scope_at p (bodies slots passes counts defs) d) x fixed y
-unfolding scope_at shown_by upd
-for_at p slots passes counts defs d x n k y hs hd =
-    let rest = scope_frame p (bodies (set slots (suc d) x) (set passes (suc d) n) (set counts d k) (set defs (suc d) 0)) (bodies slots passes counts defs) d (store_past slots (suc d) x (suc d) (omega arith)) (store_past defs (suc d) 0 (suc d) (omega arith)) in
-    rw (get_or-set_same defs (suc d) 0 0 hd, has_none y, get_or-set_same slots (suc d) x 0 hs, rest)
-    (unfold here in onto_fixed (eqb y x) (scope_at p (bodies slots passes counts defs) d y))
+  def_at : (d x y : ℕ) → x < 64 → d < length b.defs → scope_at p (def_body b d x) d y ≡ upd (scope_at p b d) x defined y
+  unfolding scope_at shown_by upd
+  def_at zero x y h l =
+      rw (get_or-set_same b.defs 0 (insert (get_or b.defs 0 0) x) 0 l, has_insert (get_or b.defs 0 0) x y h) (or_here (eqb y x) (has (get_or b.defs 0 0) y) defined (begin p y))
+  def_at (suc d) x y h l =
+      let w = get_or b.defs (suc d) 0 in
+      let own = here (eqb y (get_or b.slots (suc d) 0)) fixed hidden in
+      let rest = scope_at p b d y in
+      rw (get_or-set_same b.defs (suc d) (insert w x) 0 l, has_insert w x y h, round d (insert w x), or_here (eqb y x) (has w y) defined own, onto_here (eqb y x) (here (has w y) defined own) rest)
 
-pub scope_for : (p : ℕ) (slots passes counts defs : List ℕ) (d x n k : ℕ) → suc d < length slots → suc d < length defs
-    → scope_at p (bodies (set slots (suc d) x) (set passes (suc d) n) (set counts d k) (set defs (suc d) 0)) (suc d)
-    ≡ upd (scope_at p (bodies slots passes counts defs) d) x fixed
-scope_for p slots passes counts defs d x n k hs hd = fun_ext (λ y. for_at p slots passes counts defs d x n k y hs hd)
+  pub scope_def : (d x : ℕ) → x < 64 → d < length b.defs → scope_at p (def_body b d x) d ≡ upd (scope_at p b d) x defined
+  scope_def d x h l = fun_ext (λ y. def_at d x y h l)
+
+  for_at : (d x n k y : ℕ) → suc d < length b.slots → suc d < length b.defs → scope_at p (for_body b d x n k) (suc d) y ≡ upd (scope_at p b d) x fixed y
+  unfolding scope_at shown_by upd
+  for_at d x n k y hs hd =
+      let rest = scope_frame p (for_body b d x n k) b d (store_past b.slots (suc d) x (suc d) (omega arith)) (store_past b.defs (suc d) 0 (suc d) (omega arith)) in
+      rw (get_or-set_same b.defs (suc d) 0 0 hd, has_none y, get_or-set_same b.slots (suc d) x 0 hs, rest) (unfold here in onto_fixed (eqb y x) (scope_at p b d y))
+
+  pub scope_for : (d x n k : ℕ) → suc d < length b.slots → suc d < length b.defs → scope_at p (for_body b d x n k) (suc d) ≡ upd (scope_at p b d) x fixed
+  scope_for d x n k hs hd = fun_ext (λ y. for_at d x n k y hs hd)
 
 -- a function's body as it begins
 pub scope_begin : (p : ℕ) (b : Bodies) → get_or b.defs 0 0 ≡ 0 → scope_at p b 0 ≡ begin p
 unfolding scope_at here
 scope_begin p b e = fun_ext (λ y. rw (e, has_none y))
 
-pub scope_fresh : (p : ℕ) (slots passes counts defs : List ℕ) → length defs ≡ 9 → scope_at p (bodies slots passes counts (set defs 0 0)) 0 ≡ begin p
-scope_fresh p slots passes counts defs l = scope_begin p (bodies slots passes counts (set defs 0 0)) (get_or-set_same defs 0 0 0 (omega arith))
+pub scope_fresh : (p : ℕ) (b : Bodies) → length b.defs ≡ 9 → scope_at p (with_defs b 0 0) 0 ≡ begin p
+scope_fresh p b l = scope_begin p (with_defs b 0 0) (get_or-set_same b.defs 0 0 0 (omega arith))

@@ -1,4 +1,4 @@
--- What holds between two records of the scan: the rows are as long as they are, the bounds are kept, and what is left of the scan is the whole
+-- What holds between two records of the scan: the bounds are kept, and what is left of the scan is the whole
 -- scan's answer. Assumes nothing.
 use Prim.Native.Nat.{ℕ, ◌+◌, ◌≤◌, ◌<◌}
 use mathlib.Core.Path.{◌≡◌, sym, ap, ◌∙◌, subst}
@@ -9,26 +9,25 @@ use Rattle.word.specs.declared.Record.{Record}
 use Rattle.tape.specs.Instruction.{read}
 use Rattle.tape.specs.Scan.{Scan, start, next}
 use Rattle.tape.specs.Faults.{more, fault}
-use Rattle.tape.specs.Check.{at_end, judge, scan}
-use Rattle.tape.specs.Check.{Checked}
+use Rattle.tape.specs.Check.{Checked, at_end, judge, scan}
 use Rattle.checker.specs.declared.standing.Standing.{Standing}
 use Rattle.tape.specs.Held.{held}
-use Rattle.checker.specs.Standing.{Functions, Bodies, due_of, scan_of}
-use Rattle.checker.specs.Ready.{Within, SizedF, SizedB}
+use Rattle.checker.specs.declared.standing.Functions.{Functions}
+use Rattle.checker.specs.declared.standing.Bodies.{Bodies}
+use Rattle.checker.specs.Standing.{due_of, scan_of}
+use Rattle.checker.specs.Ready.{Within}
 use Rattle.checker.proofs.Held.{scan_held, alike_within}
 use Rattle.checker.proofs.Clear.{met}
 use Rattle.checker.proofs.Bounds.{start_within, next_within}
 use Rattle.checker.proofs.Walk.{scan_end, scan_stop, scan_on}
 
 pub record Stands (t : List ℕ) (s : Standing) (f : Functions) (b : Bodies) (at : ℕ) : Type 0 where
-  pub functions : SizedF f
-  pub bodies : SizedB b
   pub within : Within (scan_of s f b)
   pub rest : scan (scan_of s f b) at (drop at (records_of t)) ≡ scan start 0 (records_of t)
 
-pub stands_first : (t : List ℕ) (s : Standing) (f : Functions) (b : Bodies) → SizedF f → SizedB b → scan_of s f b ≡ start → Stands t s f b 0
-stands_first t s f b hf hb e =
-    record { functions = hf; bodies = hb; within = subst Within (sym e) start_within; rest = ap (λ (z : Scan). scan z 0 (records_of t)) e }
+pub stands_first : (t : List ℕ) (s : Standing) (f : Functions) (b : Bodies) → scan_of s f b ≡ start → Stands t s f b 0
+stands_first t s f b e =
+    record { within = subst Within (sym e) start_within; rest = ap (λ (z : Scan). scan z 0 (records_of t)) e }
 
 module _ (t : List ℕ) (s : Standing) (f : Functions) (b : Bodies) (at : ℕ) (here : Stands t s f b at) where
   -- after the last record
@@ -45,14 +44,12 @@ module _ (t : List ℕ) (s : Standing) (f : Functions) (b : Bodies) (at : ℕ) (
     stands_stop n r e h = sym (scan_stop t z at n r there (ap (fault z) (sym is) ∙ e) h) ∙ here.rest
 
     -- past a record that has none
-    pub stands_on : (s' : Standing) (f' : Functions) (b' : Bodies) → fault z x ≡ 0 → SizedF f' → SizedB b'
+    pub stands_on : (s' : Standing) (f' : Functions) (b' : Bodies) → fault z x ≡ 0
         → held (scan_of s' f' b') ≡ held (next z at (read x)) → Stands t s' f' b' (at + 1)
-    stands_on s' f' b' clear hf hb alike =
+    stands_on s' f' b' clear alike =
         let on = scan_on t z at there (ap (fault z) (sym is) ∙ clear) in
         let same = ap (λ (y : Record). scan (next z at (read y)) (at + 1) (drop (at + 1) (records_of t))) is in
         record {
-          functions = hf;
-          bodies = hb;
           within = alike_within (scan_of s' f' b') (next z at (read x)) alike (next_within z at x here.within (met z x clear));
           rest = scan_held (drop (at + 1) (records_of t)) (scan_of s' f' b') (next z at (read x)) (at + 1) alike ∙ same ∙ sym on ∙ here.rest;
         }

@@ -3,7 +3,7 @@ use Prim.Native.Nat.{ℕ, zero, suc, ◌/◌, ◌%◌, ◌<◌, ◌^◌}
 use native.Mathlib.Omega.{arith}
 use native.Mathlib.Nat.{zero-div, mod-lt}
 use mathlib.Core.Path.{◌≡◌, refl, sym, ap, ◌∙◌}
-use mathlib.Core.Bool.{Bool, true, false, cond, ◌||◌}
+use mathlib.Core.Bool.{Bool, true, false, ◌&&◌, ◌||◌}
 use borrow.Author.Tests.{ltb-false, eq-eqb, ne_eqb, eqb-true, eqb-false}
 use lib.Dec.{ltb, eqb}
 use lib.Bits.{bit_or, or_shr, or_mod, or_zero_r}
@@ -38,7 +38,7 @@ in_or_out w p q false h e =
 pub has_insert : (w p q : ℕ) → p < 64 → has (insert w p) q ≡ eqb q p || has w q
 has_insert w p q h = in_or_out w p q (ltb q 64) h refl
 
-none_by : (b : Bool) (q : ℕ) → cond b (eqb (0 / 2 ^ q % 2) 1) false ≡ false
+none_by : (b : Bool) (q : ℕ) → b && eqb (0 / 2 ^ q % 2) 1 ≡ false
 none_by true q = ap (λ (n : ℕ). eqb (n % 2) 1) (zero-div (2 ^ q))
 none_by false q = refl
 

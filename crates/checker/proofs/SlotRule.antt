@@ -14,7 +14,9 @@ use Rattle.tape.specs.Instruction.{Instruction, program, array, cfunc, lit, var,
 use Rattle.tape.specs.Scan.{Scan}
 use Rattle.tape.specs.Faults.{readable, settable, definable, unnamed, asks}
 use Rattle.checker.specs.declared.standing.Standing.{Standing}
-use Rattle.checker.specs.Standing.{Functions, Bodies, rank, searched_of, least_of, most_of, scope_at, scan_of}
+use Rattle.checker.specs.declared.standing.Functions.{Functions}
+use Rattle.checker.specs.declared.standing.Bodies.{Bodies}
+use Rattle.checker.specs.Standing.{rank, searched_of, least_of, most_of, scope_at, scan_of}
 use Rattle.tape.proofs.Cases.{read_program, read_array, read_cfunc, read_lit, read_var, read_get, read_not, read_bin, read_call, read_def, read_set, read_put, read_for, read_end, read_ret}
 
 -- n is from `low` to `high`
@@ -53,7 +55,7 @@ any defined = refl
 
 pub searched_le : (k d : ℕ) → searched_of k d ≤ d
 unfolding searched_of
-searched_le k d = either (eqb k 11) (either (eqb k 16) (either (eqb k 17) (either (eqb k 19) (either (eqb k 21) (omega arith)))))
+searched_le k d = either (eqb k 11 || eqb k 16 || eqb k 17 || eqb k 19 || eqb k 21) (omega arith)
   where
     either : (t : Bool) {n : ℕ} → n ≤ d → cond t d n ≤ d
     either true h = omega arith

@@ -4,8 +4,8 @@ use native.Mathlib.Omega.{arith}
 use native.Mathlib.Numerals.{add-one}
 use mathlib.Core.Path.{◌≡◌, refl}
 use mathlib.Core.Bool.{cond}
-use mathlib.Core.List.{List, [], ◌∷◌, ◌++◌}
-use lib.ListN.{length, get_or, set, length-set}
+use mathlib.Core.List.{[], ◌∷◌, ◌++◌}
+use lib.ListN.{length, get_or, set}
 use lib.Seq.{get_or-set_same}
 use lib.Dec.{eqb}
 use Rattle.word.specs.Slots.{upd, defined}
@@ -14,68 +14,47 @@ use Rattle.tape.specs.Scan.{nothing, a_function, leaves, states, opens, close_by
 use Rattle.checker.specs.declared.standing.Due.{Due}
 use Rattle.checker.specs.declared.standing.Standing.{Standing}
 use Rattle.tape.specs.Held.{hold, hold_known, held}
-use Rattle.checker.specs.Standing.{Functions, Bodies, functions, bodies, insert, due_of, known_to, scope_at, opens_at, scan_of}
-use Rattle.checker.specs.Ready.{SizedF, SizedB}
+use Rattle.checker.specs.declared.standing.Functions.{Functions}
+use Rattle.checker.specs.declared.standing.Bodies.{Bodies}
+use Rattle.checker.specs.Standing.{insert, due_of, known_to, scope_at, opens_at, scan_of}
 use Rattle.tape.proofs.Counts.{hold_hold, hold_add_right}
 use Rattle.checker.proofs.Held.{known_more}
-use Rattle.checker.proofs.Rows.{known_frame, known_length, opens_frame, scope_frame, store_past, scope_def, scope_for}
+use Rattle.checker.proofs.Rows.{known_frame, known_length, opens_frame, scope_frame, store_past, def_body, for_body, scope_def, scope_for}
 
 -- a standing with another innermost body
 abbrev pub inner : Standing → ℕ → ℕ → ℕ → Standing
-inner s operands steps deep =
-    record {
-      due = s.due;
-      functions = s.functions;
-      arrays = s.arrays;
-      known = s.known;
-      params = s.params;
-      slots = s.slots;
-      place = s.place;
-      operands = operands;
-      steps = steps;
-      deep = deep;
-    }
+inner s operands steps deep = record s { operands = operands; steps = steps; deep = deep }
 
-pub for_sized : (slots passes counts defs : List ℕ) (d x n k : ℕ) → SizedB (bodies slots passes counts defs)
-    → SizedB (bodies (set slots (suc d) x) (set passes (suc d) n) (set counts d k) (set defs (suc d) 0))
-for_sized slots passes counts defs d x n k size =
-    record { slots = simp length-set size.slots; passes = simp length-set size.passes; counts = simp length-set size.counts; defs = simp length-set size.defs }
-
-module _ (s : Standing) (f : Functions) (slots passes counts defs : List ℕ) where
-  abbrev b : Bodies
-  b = bodies slots passes counts defs
-
+module _ (s : Standing) (f : Functions) (b : Bodies) where
   -- DEF
-  pub def_stands : (x : ℕ) → s.deep < length defs → x < 64
-      → let b' = bodies slots passes counts (set defs s.deep (insert (get_or defs s.deep 0) x)) in
-      in_body (scan_of s f b') (states (scan_of s f b').body (scan_of s f b').body.scope)
-      ≡ in_body (scan_of s f b) (states (scan_of s f b).body (upd (scan_of s f b).body.scope x defined))
+  pub def_stands : (x : ℕ) → s.deep < length b.defs → x < 64
+      → let z = scan_of s f (def_body b s.deep x) in
+      in_body z (states z.body z.body.scope) ≡ in_body (scan_of s f b) (states (scan_of s f b).body (upd (scan_of s f b).body.scope x defined))
   unfolding in_body states scan_of
   def_stands x l h =
-      let w = insert (get_or defs s.deep 0) x in
-      let loops = opens_frame s.params (bodies slots passes counts (set defs s.deep w)) b s.deep (λ i l. refl) (store_past defs s.deep w s.deep (omega arith)) (λ i l. refl) (λ i l. refl) in
-      rw (scope_def s.params slots passes counts defs s.deep x h l, loops)
+      let d = s.deep in
+      let loops = opens_frame s.params (def_body b d x) b d (λ i l. refl) (store_past b.defs d (insert (get_or b.defs d 0) x) d (omega arith)) (λ i l. refl) (λ i l. refl) in
+      rw (scope_def s.params b d x h l, loops)
 
   -- FOR
-  module _ (size : SizedB b) (deep : s.deep < 8) (x q r : ℕ) where
-    abbrev b'' : Bodies
-    b'' = bodies (set slots (suc s.deep) x) (set passes (suc s.deep) (r - q)) (set counts s.deep s.steps) (set defs (suc s.deep) 0)
+  module _ (ls : length b.slots ≡ 9) (lp : length b.passes ≡ 9) (lc : length b.counts ≡ 9) (ld : length b.defs ≡ 9) (deep : s.deep < 8) (x q r : ℕ) where
+    abbrev b' : Bodies
+    b' = for_body b s.deep x (r - q) s.steps
 
-    for_loops : opens_at s.params b'' (suc s.deep) ≡ record { passes = r - q; scope = scope_at s.params b s.deep; steps = s.steps } ∷ opens_at s.params b s.deep
+    for_loops : opens_at s.params b' (suc s.deep) ≡ record { passes = r - q; scope = scope_at s.params b s.deep; steps = s.steps } ∷ opens_at s.params b s.deep
     unfolding opens_at
     for_loops =
         let d = s.deep in
         let n = suc d in
-        let own = get_or-set_same passes n (r - q) 0 (omega (arith, size.passes)) in
-        let waits = get_or-set_same counts d s.steps 0 (omega (arith, size.counts)) in
-        let scope = scope_frame s.params b'' b d (store_past slots n x n (omega arith)) (store_past defs n 0 n (omega arith)) in
-        let rest = opens_frame s.params b'' b d (store_past slots n x d (omega arith)) (store_past defs n 0 d (omega arith)) (store_past passes n (r - q) n (omega arith)) (store_past counts d s.steps d (omega arith)) in
+        let own = get_or-set_same b.passes n (r - q) 0 (omega arith) in
+        let waits = get_or-set_same b.counts d s.steps 0 (omega arith) in
+        let scope = scope_frame s.params b' b d (store_past b.slots n x n (omega arith)) (store_past b.defs n 0 n (omega arith)) in
+        let rest = opens_frame s.params b' b d (store_past b.slots n x d (omega arith)) (store_past b.defs n 0 d (omega arith)) (store_past b.passes n (r - q) n (omega arith)) (store_past b.counts d s.steps d (omega arith)) in
         rw (own, waits, scope, rest)
 
-    pub for_stands : (at : ℕ) → scan_of (inner s 0 0 (suc s.deep)) f b'' ≡ next (scan_of s f b) at (for x q r)
+    pub for_stands : (at : ℕ) → scan_of (inner s 0 0 (suc s.deep)) f b' ≡ next (scan_of s f b) at (for x q r)
     unfolding next in_body opens scan_of
-    for_stands at =
-        rw (for_loops, scope_for s.params slots passes counts defs s.deep x (r - q) s.steps (omega (arith, size.slots)) (omega (arith, size.defs)))
+    for_stands at = rw (for_loops, scope_for s.params b s.deep x (r - q) s.steps (omega arith) (omega arith))
 
 -- CALL: the steps of the function that is called, and its own
 pub call_stands : (s : Standing) (f : Functions) (b : Bodies) (n k : ℕ)
@@ -90,25 +69,19 @@ unfolding next in_body closes close_by scan_of held opens_at
 end_stands s f b d at e = rw (e, hold_hold)
 
 -- RET
-module _ (s : Standing) (params steps places : List ℕ) (size : SizedF (functions params steps places)) (known : s.known < 16) (count : ℕ) where
-  abbrev f : Functions
-  f = functions params steps places
-
+module _ (s : Standing) (f : Functions) (lp : length f.params ≡ 16) (ls : length f.steps ≡ 16) (la : length f.places ≡ 16) (known : s.known < 16) (count : ℕ) where
   abbrev f' : Functions
-  f' = functions (set params s.known s.params) (set steps s.known count) (set places s.known s.place)
+  f' = record { params = set f.params s.known s.params; steps = set f.steps s.known count; places = set f.places s.known s.place }
 
   known_one_more : known_to f' (suc s.known) ≡ known_to f s.known ++ (record { params = s.params; steps = count; place = s.place } ∷ [])
   unfolding known_to
   known_one_more =
       let n = s.known in
-      let before = known_frame f' f n (λ i l. rw (store_past params n s.params n (omega arith) i l, store_past steps n count n (omega arith) i l, store_past places n s.place n (omega arith) i l)) in
-      rw (before, get_or-set_same params n s.params 0 (omega (arith, size.params)), get_or-set_same steps n count 0 (omega (arith, size.steps)), get_or-set_same places n s.place 0 (omega (arith, size.places)))
-
-  pub ret_sized : SizedF f'
-  ret_sized = record { params = simp length-set size.params; steps = simp length-set size.steps; places = simp length-set size.places }
+      let before = known_frame f' f n (λ i l. rw (store_past f.params n s.params n (omega arith) i l, store_past f.steps n count n (omega arith) i l, store_past f.places n s.place n (omega arith) i l)) in
+      rw (before, get_or-set_same f.params n s.params 0 (omega arith), get_or-set_same f.steps n count 0 (omega arith), get_or-set_same f.places n s.place 0 (omega arith))
 
   pub ret_stands : (d : Due) (b : Bodies) (at x : ℕ) → count ≡ hold (s.steps + 1) → due_of d ≡ cond (eqb (suc s.known) s.functions) nothing a_function
-      → held (scan_of (record { due = d; functions = s.functions; arrays = s.arrays; known = suc s.known; params = s.params; slots = s.slots; place = s.place; operands = s.operands; steps = s.steps; deep = s.deep }) f' b) ≡ held (next (scan_of s f b) at (ret x))
+      → held (scan_of (record s { due = d; known = suc s.known }) f' b) ≡ held (next (scan_of s f b) at (ret x))
   unfolding next returns scan_of held
   ret_stands d b at x e h =
       rw (h, known_one_more, known_length f s.known, known_more (known_to f s.known), known_more (known_to f s.known))

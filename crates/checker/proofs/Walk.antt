@@ -15,14 +15,15 @@ use Rattle.tape.specs.Instruction.{read}
 use Rattle.tape.specs.Steps.{most}
 use Rattle.tape.specs.Scan.{Due, a_program, an_array, a_function, a_body, nothing, Known, Scan, next}
 use Rattle.tape.specs.Faults.{more, fault}
-use Rattle.tape.specs.Check.{unless_over, within, at_end, judge, scan}
-use Rattle.tape.specs.Check.{Checked}
+use Rattle.tape.specs.Check.{Checked, unless_over, within, at_end, judge, scan}
+use Rattle.std.specs.Prelude.{Some, None, Ok}
+use Rattle.word.specs.Refusals.{refuse}
 use Rattle.checker.specs.declared.standing.Standing.{Standing}
-use Rattle.checker.specs.Standing.{Functions, Bodies, due_of, known_of, known_to, scan_of}
+use Rattle.checker.specs.declared.standing.Functions.{Functions}
+use Rattle.checker.specs.declared.standing.Bodies.{Bodies}
+use Rattle.checker.specs.Standing.{due_of, known_of, known_to, scan_of}
 use Rattle.checker.specs.Ready.{Room, FirstOver}
 use Rattle.checker.proofs.Rows.{known_length, known_at_lem}
-use Rattle.std.specs.Prelude.{Ok, Err}
-use Rattle.word.specs.Refusals.{refuse}
 
 -- ---- the scan
 pub judge_refused : (n at : ℕ) (r : Checked) → (n ≡ 0 → ⊥) → judge n at r ≡ refuse n at
@@ -78,12 +79,12 @@ room_end a_body k n e r = absurd (true≢false e)
 room_end nothing k n e r = r
 
 module _ (s : Standing) (f : Functions) (b : Bodies) (at : ℕ) (ends : more (due_of s.due) ≡ false) where
-  pub end_over : (i : ℕ) → i < s.known → FirstOver f.steps s.known i → at_end (more (due_of s.due)) (scan_of s f b) at ≡ refuse 30 (get_or f.places i 0)
+  pub end_over : (i : ℕ) → FirstOver f.steps s.known (Some i) → at_end (more (due_of s.due)) (scan_of s f b) at ≡ refuse 30 (get_or f.places i 0)
   unfolding at_end scan_of
-  end_over i l h = rw ends (one_over f s.known i _ l h.before (h.over l))
+  end_over i h = rw ends (one_over f s.known i _ h.0 h.1 h.2)
 
-  pub end_within : (i : ℕ) → s.known ≤ i → 0 < s.known → FirstOver f.steps s.known i → at_end (more (due_of s.due)) (scan_of s f b) at ≡ Ok (get_or f.steps (s.known - 1) 0)
+  pub end_within : 0 < s.known → FirstOver f.steps s.known None → at_end (more (due_of s.due)) (scan_of s f b) at ≡ Ok (get_or f.steps (s.known - 1) 0)
   unfolding at_end scan_of
-  end_within i l some h =
+  end_within some h =
       let last = ap (λ (k : Known). k.steps) (known_at_lem f s.known (s.known - 1) (omega arith)) in
-      rw (ends, known_length f s.known, last) (none_over f s.known _ (λ j m. h.before j (omega arith)))
+      rw (ends, known_length f s.known, last) (none_over f s.known _ h)

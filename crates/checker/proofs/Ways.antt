@@ -8,19 +8,21 @@ use mathlib.Core.List.{List}
 use lib.Dec.{ltb}
 use Rattle.word.specs.Records.{records, record_at, records_of}
 use Rattle.word.specs.Reader.{read_at}
+use Rattle.word.specs.Slots.{hidden}
 use Rattle.word.specs.declared.Record.{Record}
 use Rattle.word.specs.declared.reader.Reader.{Reader}
-use Rattle.std.specs.Prelude.{Some, None}
+use Rattle.std.specs.Prelude.{Some, None, Result, is_err}
 use Rattle.word.proofs.Walk.{read_found, read_end}
 use Rattle.tape.specs.Scan.{start}
 use Rattle.tape.specs.Faults.{more, fault}
-use Rattle.tape.specs.Check.{at_end, judge, scan}
-use Rattle.tape.specs.Check.{Checked}
+use Rattle.tape.specs.Check.{Checked, at_end, judge, scan}
 use Rattle.checker.specs.declared.standing.Standing.{Standing}
-use Rattle.checker.specs.Standing.{Functions, Bodies, due_of, rank, shown_by, searched_of, least_of, most_of, scope_at, scan_of}
-use Rattle.checker.specs.Ready.{Room, fault_but}
+use Rattle.checker.specs.declared.standing.Functions.{Functions}
+use Rattle.checker.specs.declared.standing.Bodies.{Bodies}
+use Rattle.checker.specs.Standing.{due_of, rank, shown_by, searched_of, least_of, most_of, scope_at, scan_of}
+use Rattle.checker.specs.Ready.{Room, faulty, fault_but}
 use Rattle.checker.proofs.Allowed.{deep_is, known_is, room_is}
-use Rattle.checker.proofs.Clear.{fault_first}
+use Rattle.checker.proofs.Clear.{fault_first, faulty_none, faulty_some}
 use Rattle.checker.proofs.Search.{shown_on}
 use Rattle.checker.proofs.SlotRule.{searched_le}
 use Rattle.checker.proofs.Leaving.{body_shows, slot_refused, slot_allowed, slot_barred}
@@ -50,8 +52,11 @@ module _ {t : List ℕ} {s : Standing} {f : Functions} {b : Bodies} {at : ℕ} (
     stops n r is h = stands_stop t s f b at here x is_there.0 is_there.1 n r is h
 
     -- it has a fault, its slot apart
-    pub fault_stops : (n : ℕ) (r : Checked) → n ≡ fault_but (scan_of s f b) x → (n ≡ 0 → ⊥) → judge n at r ≡ scan start 0 (records_of t)
-    fault_stops n r is h = stops n r (fault_first (scan_of s f b) x (λ k. h (is ∙ k)) ∙ sym is) h
+    pub fault_stops : (r : Checked) {found : Result (Unit {0}) ℕ} → found ≡ faulty (fault_but (scan_of s f b) x) → is_err found ≡ true
+        → judge (fault_but (scan_of s f b) x) at r ≡ scan start 0 (records_of t)
+    fault_stops r {found} is e =
+        let some = faulty_some (fault_but (scan_of s f b) x) found is e in
+        stops (fault_but (scan_of s f b) x) r (fault_first (scan_of s f b) x some) some
 
 -- ---- in the search: the record has no fault but for its slot, and no body that was searched, from d₀ to d, shows the slot
 pub record Searched (s : Standing) (f : Functions) (b : Bodies) (x : Record) (high d₀ d : ℕ) : Type 0 where
@@ -60,23 +65,25 @@ pub record Searched (s : Standing) (f : Functions) (b : Bodies) (x : Record) (hi
   pub from : d₀ ≡ searched_of x.kind s.deep
   pub so_far : scope_at s.params b d₀ x.p ≡ scope_at s.params b d x.p
 
-pub searched : {s : Standing} {f : Functions} {b : Bodies} {x : Record} {n high d₀ d : ℕ} → n ≡ fault_but (scan_of s f b) x → n ≡ 0
+pub searched : {s : Standing} {f : Functions} {b : Bodies} {x : Record} {found : Result (Unit {0}) ℕ} {high d₀ d : ℕ}
+    → found ≡ faulty (fault_but (scan_of s f b) x) → is_err found ≡ false
     → high ≡ most_of x.kind → d₀ ≡ searched_of x.kind s.deep → scope_at s.params b d₀ x.p ≡ scope_at s.params b d x.p → Searched s f b x high d₀ d
-searched is e most from so_far = record { clear = sym is ∙ e; most = most; from = from; so_far = so_far }
+searched {s} {f} {b} {x} {found} is e most from so_far =
+    record { clear = faulty_none (fault_but (scan_of s f b) x) found is e; most = most; from = from; so_far = so_far }
 
 -- one body further out
-pub further : (p : ℕ) (b : Bodies) (x d n : ℕ) → 0 < d → n ≡ rank (shown_by b.slots b.defs d x) → n ≡ 0 → scope_at p b d x ≡ scope_at p b (d - 1) x
-further p b x d n some shown none =
+pub further : (p : ℕ) (b : Bodies) (x d : ℕ) → 0 < d → shown_by b d x ≡ hidden → scope_at p b d x ≡ scope_at p b (d - 1) x
+further p b x d some none =
     let e : d ≡ suc (d - 1) = omega arith in
-    let hidden = ap (λ (k : ℕ). rank (shown_by b.slots b.defs k x)) (sym e) ∙ sym shown ∙ none in
-    ap (λ (k : ℕ). scope_at p b k x) e ∙ shown_on p b (d - 1) x hidden
+    ap (λ (k : ℕ). scope_at p b k x) e ∙ shown_on p b (d - 1) x (ap (λ (k : ℕ). shown_by b k x) (sym e) ∙ none)
 
 module _ {s : Standing} {f : Functions} {b : Bodies} {x : Record} {high d₀ d : ℕ} (q : Searched s f b x high d₀ d) where
   -- what body d shows forbids the record
-  pub barred : (n : ℕ) → 0 < d → n ≡ rank (shown_by b.slots b.defs d x.p) → high < n → fault (scan_of s f b) x ≡ 29
-  barred n some shown over =
-      let shows = body_shows s.params b x.p d some (λ k. omega (arith, over, shown ∙ k)) in
-      slot_barred s f b x q.clear n high d₀ d q.most q.from q.so_far (shown ∙ ap rank (sym shows)) over
+  pub barred : 0 < d → high < rank (shown_by b d x.p) → fault (scan_of s f b) x ≡ 29
+  unfolding rank
+  barred some over =
+      let shows = body_shows s.params b x.p d some (λ k. omega (arith, ap rank k)) in
+      slot_barred s f b x q.clear (rank (shown_by b d x.p)) high d₀ d q.most q.from q.so_far (ap rank (sym shows)) over
 
   -- what is visible in body d forbids it, or allows it
   pub refused : (n : ℕ) → n ≡ rank (scope_at s.params b d x.p) → ltb n (least_of x.kind) || ltb high n ≡ true → fault (scan_of s f b) x ≡ 29

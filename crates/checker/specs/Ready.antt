@@ -1,13 +1,12 @@
 -- What the code of one record presupposes of the scan, and what it is asked. No public contract speaks of these. Assumes nothing: these are
 -- definitions.
-use Rattle.std.specs.Prelude.{◌≡◌, ℕ, ◌≤◌, ◌<◌, true, List, length, get_or}
+use Rattle.std.specs.Prelude.{◌≡◌, ℕ, zero, suc, ◌≤◌, ◌<◌, true, List, length, slice_index, Option, Some, None, Result, Ok, Err}
 use Rattle.word.specs.Records.{same}
 use Rattle.word.specs.declared.Record.{Record}
 use Rattle.tape.specs.Instruction.{read, write}
 use Rattle.tape.specs.Steps.{most}
 use Rattle.tape.specs.Scan.{Due, a_program, an_array, a_function, a_body, nothing, Scan}
 use Rattle.tape.specs.Faults.{Asked, asked, due, more, deep, asks, unless, unmet, fault}
-use Rattle.checker.specs.Standing.{Functions, Bodies}
 
 -- how many functions are known: fewer than there are while one is still due, and one at least in the end
 abbrev pub Room : Due → ℕ → ℕ → Type 0
@@ -30,18 +29,6 @@ pub record Ready (s : Scan) (x : Record) : Type 0 where
   pub within : Within s
   pub clear : fault s x ≡ 0
 
--- how long the rows are
-pub record SizedF (f : Functions) : Type 0 where
-  pub params : length f.params ≡ 16
-  pub steps : length f.steps ≡ 16
-  pub places : length f.places ≡ 16
-
-pub record SizedB (b : Bodies) : Type 0 where
-  pub slots : length b.slots ≡ 9
-  pub passes : length b.passes ≡ 9
-  pub counts : length b.counts ≡ 9
-  pub defs : length b.defs ≡ 9
-
 -- 24, 25, 27, 28: what a record of a kind that is due asks for, but for its slot
 abbrev pub spared : Asked → Asked
 spared a = asked a.range a.loops a.operands true
@@ -52,8 +39,12 @@ fields_fault s x = unless (same x (write (read x))) 24 (unmet (spared (asks s (r
 unfoldable pub fault_but : Scan → Record → ℕ
 fault_but s x = unless (more s.due) 26 (unless (due s.due x.kind) 22 (fields_fault s x))
 
--- the first of the functions whose steps are over the limit, or how many there are
-pub record FirstOver (steps : List ℕ) (known f : ℕ) : Type 0 where
-  pub within : f ≤ known
-  pub before : (i : ℕ) → i < f → get_or steps i 0 ≤ most
-  pub over : f < known → most < get_or steps f 0
+-- how an answer stands for a fault's number, 0 for none
+unfoldable pub faulty : ℕ → Result (Unit {0}) ℕ
+faulty zero = Ok tt
+faulty (suc n) = Err (suc n)
+
+-- the first of the known functions whose steps are over the limit
+abbrev pub FirstOver : List ℕ → ℕ → Option ℕ → Type 0
+FirstOver steps known None = (i : ℕ) → i < known → slice_index steps i ≤ most
+FirstOver steps known (Some f) = (f < known) × ((i : ℕ) → i < f → slice_index steps i ≤ most) × (most < slice_index steps f)

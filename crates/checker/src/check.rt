@@ -1,135 +1,123 @@
 // The check of a tape: 21; one scan over the records, 22 to 29; then 30.
-ghost use Rattle.std.specs.Prelude.{◌≡◌, List, ℕ, ◌≤◌};
-ghost use Rattle.word.specs.Records.{records_of, sized};
+ghost use Rattle.std.specs.Prelude.{◌≡◌, ℕ, ◌≤◌};
+ghost use Rattle.word.specs.Records.{records_of};
 ghost use Rattle.tape.specs.Scan.{start};
 ghost use Rattle.tape.specs.Faults.{more};
 ghost use Rattle.tape.specs.Check.{at_end, judge, scan, check};
-ghost use Rattle.checker.specs.Standing.{Bodies, functions, due_of, scan_of};
-ghost use Rattle.checker.specs.Ready.{Room, FirstOver};
+ghost use Rattle.checker.specs.Standing.{due_of, scan_of};
+ghost use Rattle.checker.specs.Ready.{Room, FirstOver, faulty};
+ghost use Rattle.checker.specs.declared.standing.Bodies.{Bodies};
 
-use crate::advance::advance;
-use crate::faults::fault;
-use crate::slots::{HIDDEN, most, outside, searched, shown, visible};
-use crate::standing::{Due, Standing, begin};
-use tape::Checked;
-use word::reader::{Read, Reader};
+use crate::slots::{Seen, most, outside, searched};
+use crate::standing::{Bodies, Due, Functions, Standing};
+use word::reader::Reader;
+use word::{Refusal, sized};
 
-// 21: there are whole records, one at least and 131072 at most.
-fn sized(n: usize) -> bool
-    ensures { result ≡ sized 131072 n }
-{
-    (n != 0) & ((n % 4 == 0) & (n / 4 <= 131072))
-}
-
-// Whether more is due.
-fn more(due: Due) -> bool
-    ensures { result ≡ more (due_of due) }
-{
-    match due {
-        Due::Program => true,
-        Due::Array => true,
-        Due::Function => true,
-        Due::Body => true,
-        Due::Nothing => false,
+impl Due {
+    // Whether more is due.
+    #[tactic(auto, unfolding(tape::specs::Faults::more, crate::specs::Standing::due_of))]
+    fn more(self) -> bool
+        ensures { result ≡ more (due_of self) }
+    {
+        self != Due::Nothing
     }
 }
 
-// The first function whose steps are over the limit, or how many there are.
-fn first_over(steps: &[u32; 16], known: usize) -> usize
-    requires { known ≤ 16 }
-    ensures { FirstOver steps.now known result }
-{
-    let mut f = 0;
-    while f < known {
-        if 1000000000 < steps[f] {
-            return f;
+impl Functions {
+    // The first of the known functions whose steps are over the limit.
+    fn first_over(&self, known: usize) -> Option<usize>
+        requires { known ≤ 16 }
+        ensures { FirstOver self.now.steps known result }
+    {
+        for f in 0..known {
+            if 1000000000 < self.steps[f] {
+                return Some(f);
+            }
         }
-        f += 1;
+        None
     }
-    f
 }
 
-// The answer where the scan has left the records: at a fault, or after the last one.
-fn answer(s: Standing, number: u32, at: Reader, steps: &[u32; 16], places: &[usize; 16]) -> Checked
-    requires { (s.known ≤ 16) × Room (due_of s.due) s.known s.functions }
-    ensures { (params : List ℕ) (b : Bodies) → result ≡ judge number at.at (at_end (more (due_of s.due)) (scan_of s (functions params steps.now places.now) b) at.at) }
-{
-    if number != 0 {
-        return Checked::Refused {
-            number,
-            place: at.at,
-        };
-    }
-    let due = s.due;
-    if more(due) {
-        return Checked::Refused {
-            number: 23,
-            place: at.at,
-        };
-    }
-    let known = s.known;
-    let f = first_over(steps, known);
-    if f < known {
-        return Checked::Refused {
-            number: 30,
-            place: places[f],
-        };
-    }
-    Checked::Accepted {
-        steps: steps[known - 1],
+impl Standing {
+    // The answer where the scan has left the records: at a fault, or after the last one.
+    fn answer(
+        self,
+        found: Result<(), u32>,
+        at: Reader,
+        functions: &Functions,
+    ) -> Result<u32, Refusal>
+        requires { (self.known ≤ 16) × Room (due_of self.due) self.known self.functions }
+        ensures { (n : ℕ) (b : Bodies) → found ≡ faulty n → result ≡ judge n at.at (at_end (more (due_of self.due)) (scan_of self functions.now b) at.at) }
+    {
+        if let Err(number) = found {
+            return Err(Refusal {
+                number,
+                place: at.at,
+            });
+        }
+        if self.due.more() {
+            return Err(Refusal {
+                number: 23,
+                place: at.at,
+            });
+        }
+        if let Some(f) = functions.first_over(self.known) {
+            return Err(Refusal {
+                number: 30,
+                place: functions.places[f],
+            });
+        }
+        Ok(functions.steps[self.known - 1])
     }
 }
 
 // The scan. The bodies that are open round a record are searched for its slot, from the innermost out, and the scan is left from within the
 // search as soon as what is found forbids the record.
-fn scan(tape: &[u32]) -> Checked
+fn scan(tape: &[u32]) -> Result<u32, Refusal>
     ensures { result ≡ scan start 0 (records_of tape.now) }
 {
-    let params = &mut [0u32; 16];
-    let steps = &mut [0u32; 16];
-    let places = &mut [0usize; 16];
-    let slots = &mut [0u32; 9];
-    let passes = &mut [0u32; 9];
-    let counts = &mut [0u32; 9];
-    let defs = &mut [0u64; 9];
-    let mut s = begin();
+    let mut functions = Functions::new();
+    let mut bodies = Bodies::new();
+    let mut s = Standing::new();
     let mut at = Reader::new();
-    let mut number = 0u32;
-    'scan: while let Read::Found(x, next) = at.next(tape) {
-        number = fault(s, x, params);
-        if number != 0 {
+    let mut found = Ok(());
+    'scan: while let Some((x, next)) = at.next(tape) {
+        found = s.fault(x, &functions);
+        if found.is_err() {
             break 'scan;
         }
         let most = most(x.kind);
         let mut d = searched(x.kind, s.deep);
         'bodies: while 0 < d {
-            if most < shown(slots, defs, d, x.p) {
-                number = 29;
+            let shown = bodies.shown(d, x.p);
+            if most < shown {
+                found = Err(29);
                 break 'scan;
             }
-            if shown(slots, defs, d, x.p) != HIDDEN {
+            if shown != Seen::Hidden {
                 break 'bodies;
             }
             d -= 1;
         }
-        if outside(x.kind, most, visible(slots, defs, s.params, d, x.p)) {
-            number = 29;
+        if outside(x.kind, most, bodies.visible(s.params, d, x.p)) {
+            found = Err(29);
             break 'scan;
         }
-        s = advance(s, x, at, params, steps, places, slots, passes, counts, defs);
+        s = s.advance(x, at, &mut functions, &mut bodies);
         at = next;
     }
-    answer(s, number, at, steps, places)
+    s.answer(found, at, &functions)
 }
 
-pub fn check(tape: &[u32]) -> Checked
+#[tactic(auto, unfolding(tape::specs::Check::check))]
+pub fn check(tape: &[u32]) -> Result<u32, Refusal>
     ensures { result ≡ check tape.now }
 {
-    if !sized(tape.len()) {
-        return Checked::Refused {
+    if !sized(131072, tape.len()) {
+        return Err(Refusal {
             number: 21,
             place: 0,
-        };
+        });
     }
     scan(tape)
 }

@@ -1,11 +1,13 @@
-// Where the scan of a tape stands: its numbers, which go by value. Its rows are lent (specs/Standing says what they stand for).
-ghost use Rattle.std.specs.Prelude.{◌≡◌, cond, get_or};
+// Where the scan of a tape stands: its numbers, which go by value, and its rows, which are lent (specs/Standing says what they stand for).
+ghost use Rattle.std.specs.Prelude.{◌≡◌, slice_index};
 ghost use Rattle.tape.specs.Scan.{start};
-ghost use Rattle.checker.specs.Standing.{Functions, Bodies, scan_of};
+ghost use Rattle.checker.specs.Standing.{beginning, scan_of};
+ghost use Rattle.checker.specs.declared.standing.Functions.{Functions};
+ghost use Rattle.checker.specs.declared.standing.Bodies.{Bodies};
 
 // What is due: PROGRAM, an ARRAY, a CFUNC, a record of a function's body, or nothing more.
-#[derive(Clone, Copy)]
-pub enum Due {
+#[derive(Clone, Copy, Debug, PartialEq, Eq)]
+pub(crate) enum Due {
     Program,
     Array,
     Function,
@@ -16,38 +18,77 @@ pub enum Due {
 // The numbers of the scan: what is due; the functions and arrays of PROGRAM; how many functions are known, their RETs passed; of the present
 // function its parameters, slots and CFUNC; and of its innermost open body the operands that wait, its steps so far, and the loops round it.
 #[derive(Clone, Copy)]
-pub struct Standing {
-    pub due: Due,
-    pub functions: u32,
-    pub arrays: u32,
-    pub known: usize,
-    pub params: u32,
-    pub slots: u32,
-    pub place: usize,
-    pub operands: u32,
-    pub steps: u32,
-    pub deep: usize,
+pub(crate) struct Standing {
+    pub(crate) due: Due,
+    pub(crate) functions: u32,
+    pub(crate) arrays: u32,
+    pub(crate) known: usize,
+    pub(crate) params: u32,
+    pub(crate) slots: u32,
+    pub(crate) place: usize,
+    pub(crate) operands: u32,
+    pub(crate) steps: u32,
+    pub(crate) deep: usize,
 }
 
-pub fn begin() -> Standing
-    ensures { (f : Functions) (b : Bodies) → get_or b.defs 0 0 ≡ 0 → scan_of result f b ≡ start }
-{
-    Standing {
-        due: Due::Program,
-        functions: 0,
-        arrays: 0,
-        known: 0,
-        params: 0,
-        slots: 0,
-        place: 0,
-        operands: 0,
-        steps: 0,
-        deep: 0,
+// Of the functions whose RET was passed: parameters, steps, the records of their CFUNCs.
+#[derive(Drop)]
+pub(crate) struct Functions {
+    pub(crate) params: [u32; 16],
+    pub(crate) steps: [u32; 16],
+    pub(crate) places: [usize; 16],
+}
+
+// Of the open bodies, the function's own first: the slot of its FOR, its passes, the steps before the FOR inside it, and the set of its DEFs.
+#[derive(Drop)]
+pub(crate) struct Bodies {
+    pub(crate) slots: [u32; 9],
+    pub(crate) passes: [u32; 9],
+    pub(crate) counts: [u32; 9],
+    pub(crate) defs: [u64; 9],
+}
+
+impl Standing {
+    // Before the first record.
+    #[tactic(auto, using(crate::proofs::Rows::scope_begin), unfolding(tape::specs::Scan::start, tape::specs::Scan::opening, crate::specs::Standing::due_of, crate::specs::Standing::known_to, crate::specs::Standing::opens_at, crate::specs::Standing::scan_of))]
+    pub(crate) fn new() -> Self
+        ensures numbers { result ≡ beginning }
+        ensures starts { (f : Functions) (b : Bodies) → slice_index b.defs 0 ≡ 0 → scan_of result f b ≡ start }
+    {
+        Standing {
+            due: Due::Program,
+            functions: 0,
+            arrays: 0,
+            known: 0,
+            params: 0,
+            slots: 0,
+            place: 0,
+            operands: 0,
+            steps: 0,
+            deep: 0,
+        }
     }
 }
 
-pub fn pick(test: bool, a: Due, b: Due) -> Due
-    ensures { result ≡ cond test a b }
-{
-    if test { a } else { b }
+impl Functions {
+    pub(crate) fn new() -> Self {
+        Functions {
+            params: [0; 16],
+            steps: [0; 16],
+            places: [0; 16],
+        }
+    }
+}
+
+impl Bodies {
+    pub(crate) fn new() -> Self
+        ensures { slice_index result.defs 0 ≡ 0 }
+    {
+        Bodies {
+            slots: [0; 9],
+            passes: [0; 9],
+            counts: [0; 9],
+            defs: [0; 9],
+        }
+    }
 }

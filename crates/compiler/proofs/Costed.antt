@@ -147,16 +147,16 @@ module _ (t : List ℕ) (w : Words t) (p : Program) (i : ℕ) (e : read_table t 
   unfolding written cost_of
   wet_answer out true h clean =
       let room = leb-true (length (tape (translate p))) (length out) h in
-      answers_tape t out _ _ (cost_is (Ok tt) clean) (omega (arith, tape_records p, tape_words t p within_ranges stands)) ∙ ap (answered _) (emitted_is clean out room)
+      answers_tape t out _ (cost_is (Ok tt) clean) (omega (arith, tape_records p, tape_words t p within_ranges stands)) ∙ ap (answered _) (emitted_is clean out room)
   wet_answer out false h clean =
       let short = leb-false (length (tape (translate p))) (length out) h in
-      answers_13 t out _ _ (cost_is (Ok tt) clean) (omega (arith, tape_records p, tape_words t p within_ranges stands))
+      answers_13 t out _ (cost_is (Ok tt) clean) (omega (arith, tape_records p, tape_words t p within_ranges stands))
 
   answer_by : (out : List ℕ) (r : First) → costs p ≡ r → write_out t out ≡ unless_fault r p out
   unfolding unless_fault cost_of
   answer_by out (Ok u) c = wet_answer out (leb (length (tape (translate p))) (length out)) refl c
   answer_by out (Err r) c =
-      answers_12 t out place (cost_is (refuse number place) c) ∙ ap (λ (k : ℕ). answered (refuse k place) out) (sym (twelve t w p i e (replicate 16 0) number place c))
+      answers_12 t out _ (cost_is (Err r) c) ∙ ap (λ (k : ℕ). answered (refuse k r.place) out) (sym (twelve t w p i e (replicate 16 0) r.number r.place c))
 
   -- 12, 13, or the tape
   pub written_is : (out : List ℕ) → write_out t out ≡ unless_fault (costs p) p out

@@ -13,6 +13,7 @@ use Rattle.script.specs.Stage.{First}
 use Rattle.translation.specs.Compile.{costs, stages, first_of, unless_fault, compile_by, compile}
 use Rattle.std.specs.Prelude.{Ok, Err}
 use Rattle.word.specs.Refusals.{refuse}
+use Rattle.word.proofs.Refused.{refused_number, refused_place}
 
 or_clean : (a : First) → or_else a (Ok tt) ≡ a
 unfolding or_else
@@ -49,6 +50,6 @@ compile_fault t number place h out = by (read_table t) refl
         rw (e, cost_last p, c) refl
     by (refused n k) e =
         let f : refuse n k ≡ refuse number place = rw e at h in
-        let a : n ≡ number = cc in
-        let b : k ≡ place = cc in
+        let a : n ≡ number = refused_number f in
+        let b : k ≡ place = refused_place f in
         rw (e, a, b) refl

@@ -13,11 +13,11 @@ use Rattle.emitting.specs.Emitting.{sheet, place}
 use Rattle.emitting.specs.Walking.{Desk, desk, times}
 use Rattle.compiler.specs.Writing.{Rolls, rolls, copy_by, copy, body_of, enter_f, walk_f, walk_fs, blank, enter_p, walk_p, answered, fitting, unless_cost, known, write_out}
 use Rattle.emitting.specs.declared.emitter.Emitter.{Emitter}
-use Rattle.costing.specs.declared.Cost.{Cost}
-use Rattle.costing.specs.declared.Cost.TheVariants.{Within, Over}
 use Rattle.std.specs.Prelude.{Ok, Err}
 use Rattle.word.specs.Refusals.{refuse}
-use Rattle.translation.specs.Compile.{announced}
+use Rattle.word.specs.declared.Refusal.{Refusal}
+use Rattle.translation.specs.Compile.{Compiled}
+use Rattle.translation.specs.declared.Tape.{Tape}
 
 -- ---- a whole table
 module _ (t : List ℕ) where
@@ -68,15 +68,15 @@ start_is out e i p r = λ j. desk (record { words = out; at = p j }) (r j)
 
 -- ---- the answer
 module _ (t out : List ℕ) where
-  pub answers_12 : (place : ℕ) → (known t).cost ≡ Over place → write_out t out ≡ answered (refuse 12 place) out
+  pub answers_12 : (r : Refusal) → (known t).cost ≡ Err r → write_out t out ≡ answered (Err r) out
   unfolding write_out unless_cost
-  answers_12 place e = ap (λ (k : Cost). unless_cost t out k (known t).depths) e
+  answers_12 r e = ap (λ (k : Compiled). unless_cost t out k (known t).depths) e
 
-  module _ (r s : ℕ) (e : (known t).cost ≡ Within r s) where
-    pub answers_13 : length out < r * 4 → write_out t out ≡ answered (refuse 13 r) out
+  module _ (w : Tape) (e : (known t).cost ≡ Ok w) where
+    pub answers_13 : length out < w.records * 4 → write_out t out ≡ answered (refuse 13 w.records) out
     unfolding write_out unless_cost fitting
-    answers_13 h = ap (λ (k : Cost). unless_cost t out k (known t).depths) e ∙ rw (lt-leb (r * 4) (length out) h) refl
+    answers_13 h = ap (λ (k : Compiled). unless_cost t out k (known t).depths) e ∙ rw (lt-leb (w.records * 4) (length out) h) refl
 
-    pub answers_tape : r * 4 ≤ length out → write_out t out ≡ answered (Ok (announced r s)) (walk_p t (known t).depths out)
+    pub answers_tape : w.records * 4 ≤ length out → write_out t out ≡ answered (Ok w) (walk_p t (known t).depths out)
     unfolding write_out unless_cost fitting
-    answers_tape h = ap (λ (k : Cost). unless_cost t out k (known t).depths) e ∙ rw (le-leb (r * 4) (length out) h) refl
+    answers_tape h = ap (λ (k : Compiled). unless_cost t out k (known t).depths) e ∙ rw (le-leb (w.records * 4) (length out) h) refl

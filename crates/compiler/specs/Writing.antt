@@ -1,6 +1,6 @@
 -- The walk over a whole table that writes its translation: the functions one after another, with what is kept of each; and the answer, by the cost (12, 13) that was
 -- counted before. Assumes nothing: these are definitions.
-use Rattle.std.specs.Prelude.{ℕ, zero, suc, ◌+◌, ◌*◌, min, Bool, true, false, List, length, get_or, replicate, set as keep, leb}
+use Rattle.std.specs.Prelude.{ℕ, zero, suc, ◌+◌, ◌*◌, ◌≤◌, min, Bool, true, false, List, length, get_or, replicate, set as keep, leb}
 use Rattle.word.specs.Value.{TRUE, FALSE}
 use Rattle.word.specs.Reader.{read_at}
 use Rattle.word.specs.declared.Record.{Record}
@@ -15,11 +15,14 @@ use Rattle.translation.specs.Compile.{Result}
 use Rattle.emitting.specs.Emitting.{Sheet, place, puts}
 use Rattle.emitting.specs.Walking.{Desk, desk, on, times, walk_s}
 use Rattle.translation.specs.Compile.{Compiled}
-use Rattle.costing.specs.declared.Cost.{Cost}
-use Rattle.costing.specs.declared.Cost.TheVariants.{Within, Over}
+use Rattle.compiler.specs.declared.masks.Place.{Place}
 use Rattle.std.specs.Prelude.{Ok, Err}
 use Rattle.word.specs.Refusals.{refuse}
-use Rattle.translation.specs.Compile.{announced}
+use Rattle.translation.specs.declared.Tape.{Tape}
+
+-- where a statement stands: a function has 32 slots at most, and IFs lie 16 deep at most
+abbrev pub Small : Place → Type 0
+Small p = (p.slots ≤ 32) × (p.ifs ≤ 16)
 
 abbrev pub blank : List ℕ → Sheet
 blank out = record { words = out; at = 0 }
@@ -75,13 +78,13 @@ module _ (t depths : List ℕ) where
 abbrev pub answered : Compiled → List ℕ → Result
 answered r out = record { answer = r; out = out }
 
-unfoldable pub fitting : Bool → List ℕ → List ℕ → ℕ → ℕ → List ℕ → Result
-fitting true t depths records steps out = answered (Ok (announced records steps)) (walk_p t depths out)
-fitting false t depths records steps out = answered (refuse 13 records) out
+unfoldable pub fitting : Bool → List ℕ → List ℕ → Tape → List ℕ → Result
+fitting true t depths w out = answered (Ok w) (walk_p t depths out)
+fitting false t depths w out = answered (refuse 13 w.records) out
 
-unfoldable pub unless_cost : List ℕ → List ℕ → Cost → List ℕ → Result
-unless_cost t out (Within records steps) depths = fitting (leb (records * 4) (length out)) t depths records steps out
-unless_cost t out (Over at) depths = answered (refuse 12 at) out
+unfoldable pub unless_cost : List ℕ → List ℕ → Compiled → List ℕ → Result
+unless_cost t out (Ok w) depths = fitting (leb (w.records * 4) (length out)) t depths w out
+unless_cost t out (Err r) depths = answered (Err r) out
 
 -- the cost, and the deepest IF nestings, which the walk finds as they were counted
 abbrev pub known : List ℕ → Known

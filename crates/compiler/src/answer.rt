@@ -6,30 +6,22 @@ ghost use Rattle.translation.specs.Compile.{costs, unless_fault};
 ghost use Rattle.compiler.specs.Writing.{answered};
 
 use crate::function::translate;
-use costing::{Cost, measure};
-use translation::Compiled;
+use costing::measure;
+use translation::Tape;
+use word::Refusal;
 
 // The cost is counted first; no word is written before both limits are kept.
-pub fn write_out(table: &[u32], out: &mut [u32]) -> Compiled
+pub fn write_out(table: &[u32], out: &mut [u32]) -> Result<Tape, Refusal>
     ensures { (p : Program) (i : ℕ) → read_table table.now ≡ parsed p i → answered result out.new ≡ unless_fault (costs p) p out.old }
 {
     let mut depths = [0u32; 16];
-    match measure(table, &mut depths) {
-        Cost::Over(place) => Compiled::Refused { number: 12, place },
-        Cost::Within { records, steps } => {
-            let needed = records as usize;
-            if needed * 4 <= out.len() {
-                translate(table, &depths, out);
-                Compiled::Tape {
-                    records: needed,
-                    steps,
-                }
-            } else {
-                Compiled::Refused {
-                    number: 13,
-                    place: needed,
-                }
-            }
-        }
+    let tape = measure(table, &mut depths)?;
+    if out.len() / 4 < tape.records {
+        return Err(Refusal {
+            number: 13,
+            place: tape.records,
+        });
     }
+    translate(table, &depths, out);
+    Ok(tape)
 }

@@ -1,98 +1,141 @@
 // The context C and the mask M, and what is written with them behind an expression.
-ghost use Rattle.std.specs.Prelude.{◌≡◌, ◌≤◌};
+#![tactic(auto, unfolding(word::specs::Code::code, tape::specs::Named::named, translation::specs::Translate::context, translation::specs::Translate::masking, emitting::specs::Emitting::lay_e, emitting::specs::Emitting::masks, emitting::specs::Emitting::merges, emitting::specs::Emitting::assigns, emitting::specs::Emitting::stores, emitting::specs::Emitting::gives, emitting::specs::Emitting::flips))]
+
+ghost use Rattle.std.specs.Prelude.{◌≡◌, ◌≤◌, ◌+◌};
 ghost use Rattle.translation.specs.Translate.{layout, context, masking};
 ghost use Rattle.emitting.specs.Emitting.{sheet, lay_e, masks, merges, assigns, stores, gives, flips};
+ghost use Rattle.compiler.specs.Writing.{Small};
 
-use emitting::emitter::{Emitter, TRUE};
+use emitting::emitter::Emitter;
+use tape::instruction::Instruction::{Bin, Get, Lit, Not, Put, Set, Var};
+use word::operators::TRUE;
+
+// The codes of `&` and `|`.
+const AND: u32 = 6;
+
+const OR: u32 = 7;
+
+// Where a statement stands: how many slots its function has, and how many IFs lie round it. Behind the function's slots lie those of the translation: rval, rnset, and
+// a condition for each IF.
+#[derive(Clone, Copy, Debug, PartialEq, Eq)]
+pub(crate) struct Place {
+    pub slots: u32,
+    pub ifs: u32,
+}
+
+impl Place {
+    fn rval(self) -> u32
+        ensures { result ≡ (layout self.slots).rval }
+    {
+        self.slots
+    }
+
+    fn rnset(self) -> u32
+        requires { Small self }
+        ensures { result ≡ (layout self.slots).rnset }
+    {
+        self.slots + 1
+    }
+
+    // The condition of an IF that stands here.
+    pub fn condition(self) -> u32
+        requires { Small self }
+        ensures { result ≡ (layout self.slots).condition self.ifs }
+    {
+        self.slots + 2 + self.ifs
+    }
+}
 
 // C: LIT TRUE, and within each IF its condition `&` the context round it.
-pub(crate) fn context(out: &mut [u32], to: Emitter, slots: u32, ifs: u32) -> Emitter
-    requires { (slots ≤ 32) × (ifs ≤ 16) }
-    ensures { sheet out.new result ≡ lay_e (context (layout slots) ifs) (sheet out.old to) }
+pub(crate) fn context(out: &mut [u32], to: Emitter, place: Place) -> Emitter
+    requires { Small place }
+    ensures { sheet out.new result ≡ lay_e (context (layout place.slots) place.ifs) (sheet out.old to) }
 {
-    if ifs == 0 {
-        return to.put(out, 10, TRUE, 0, 0);
+    if place.ifs == 0 {
+        return to.put(out, Lit(TRUE));
     }
-    let d = ifs - 1;
-    let condition = to.put(out, 11, slots + 2 + d, 0, 0);
-    let round = context(out, condition, slots, d);
-    round.put(out, 14, 6, 0, 0)
+    let round = Place {
+        ifs: place.ifs - 1,
+        ..place
+    };
+    let condition = to.put(out, Var(round.condition()));
+    context(out, condition, round).put(out, Bin(AND))
 }
 
 // M: C `&` rnset.
-fn mask(out: &mut [u32], to: Emitter, slots: u32, ifs: u32) -> Emitter
-    requires { (slots ≤ 32) × (ifs ≤ 16) }
-    ensures { sheet out.new result ≡ lay_e (masking (layout slots) ifs) (sheet out.old to) }
+fn mask(out: &mut [u32], to: Emitter, place: Place) -> Emitter
+    requires { Small place }
+    ensures { sheet out.new result ≡ lay_e (masking (layout place.slots) place.ifs) (sheet out.old to) }
 {
-    let c = context(out, to, slots, ifs);
-    let rnset = c.put(out, 11, slots + 1, 0, 0);
-    rnset.put(out, 14, 6, 0, 0)
+    let c = context(out, to, place);
+    let rnset = c.put(out, Var(place.rnset()));
+    rnset.put(out, Bin(AND))
 }
 
 // A new value `&` M.
-pub(crate) fn masked(out: &mut [u32], to: Emitter, slots: u32, ifs: u32) -> Emitter
-    requires { (slots ≤ 32) × (ifs ≤ 16) }
-    ensures { sheet out.new result ≡ masks (layout slots) ifs (sheet out.old to) }
+pub(crate) fn masked(out: &mut [u32], to: Emitter, place: Place) -> Emitter
+    requires { Small place }
+    ensures { sheet out.new result ≡ masks (layout place.slots) place.ifs (sheet out.old to) }
 {
-    let m = mask(out, to, slots, ifs);
-    m.put(out, 14, 6, 0, 0)
+    let m = mask(out, to, place);
+    m.put(out, Bin(AND))
 }
 
 // `|` the old value, where M is FALSE.
-pub(crate) fn merged(out: &mut [u32], to: Emitter, slots: u32, ifs: u32) -> Emitter
-    requires { (slots ≤ 32) × (ifs ≤ 16) }
-    ensures { sheet out.new result ≡ merges (layout slots) ifs (sheet out.old to) }
+pub(crate) fn merged(out: &mut [u32], to: Emitter, place: Place) -> Emitter
+    requires { Small place }
+    ensures { sheet out.new result ≡ merges (layout place.slots) place.ifs (sheet out.old to) }
 {
-    let m = mask(out, to, slots, ifs);
-    let not = m.put(out, 13, 0, 0, 0);
-    let old = not.put(out, 14, 6, 0, 0);
-    old.put(out, 14, 7, 0, 0)
+    let m = mask(out, to, place);
+    let not = m.put(out, Not);
+    let old = not.put(out, Bin(AND));
+    old.put(out, Bin(OR))
 }
 
 // SET x, behind the expression.
-pub(crate) fn assign(out: &mut [u32], to: Emitter, slots: u32, ifs: u32, x: u32) -> Emitter
-    requires { (slots ≤ 32) × (ifs ≤ 16) }
-    ensures { sheet out.new result ≡ assigns (layout slots) ifs x (sheet out.old to) }
+pub(crate) fn assign(out: &mut [u32], to: Emitter, place: Place, x: u32) -> Emitter
+    requires { Small place }
+    ensures { sheet out.new result ≡ assigns (layout place.slots) place.ifs x (sheet out.old to) }
 {
-    let value = masked(out, to, slots, ifs);
-    let old = value.put(out, 11, x, 0, 0);
-    let both = merged(out, old, slots, ifs);
-    both.put(out, 17, x, 0, 0)
+    let value = masked(out, to, place);
+    let old = value.put(out, Var(x));
+    let both = merged(out, old, place);
+    both.put(out, Set(x))
 }
 
 // PUT a, behind the masked value and the index, which was written a second time.
-pub(crate) fn store_at(out: &mut [u32], to: Emitter, slots: u32, ifs: u32, a: u32) -> Emitter
-    requires { (slots ≤ 32) × (ifs ≤ 16) }
-    ensures { sheet out.new result ≡ stores (layout slots) ifs a (sheet out.old to) }
+pub(crate) fn store_at(out: &mut [u32], to: Emitter, place: Place, a: u32) -> Emitter
+    requires { Small place }
+    ensures { sheet out.new result ≡ stores (layout place.slots) place.ifs a (sheet out.old to) }
 {
-    let old = to.put(out, 12, a, 0, 0);
-    let both = merged(out, old, slots, ifs);
-    both.put(out, 18, a, 0, 0)
+    let old = to.put(out, Get(a));
+    let both = merged(out, old, place);
+    both.put(out, Put(a))
 }
 
 // RETURN, behind the expression: rval, and rnset.
-pub(crate) fn give(out: &mut [u32], to: Emitter, slots: u32, ifs: u32) -> Emitter
-    requires { (slots ≤ 32) × (ifs ≤ 16) }
-    ensures { sheet out.new result ≡ gives (layout slots) ifs (sheet out.old to) }
+pub(crate) fn give(out: &mut [u32], to: Emitter, place: Place) -> Emitter
+    requires { Small place }
+    ensures { sheet out.new result ≡ gives (layout place.slots) place.ifs (sheet out.old to) }
 {
-    let value = masked(out, to, slots, ifs);
-    let old = value.put(out, 11, slots, 0, 0);
-    let both = old.put(out, 14, 7, 0, 0);
-    let rval = both.put(out, 17, slots, 0, 0);
-    let rnset = rval.put(out, 11, slots + 1, 0, 0);
-    let c = context(out, rnset, slots, ifs);
-    let not = c.put(out, 13, 0, 0, 0);
-    let left = not.put(out, 14, 6, 0, 0);
-    left.put(out, 17, slots + 1, 0, 0)
+    let value = masked(out, to, place);
+    let old = value.put(out, Var(place.rval()));
+    let both = old.put(out, Bin(OR));
+    let rval = both.put(out, Set(place.rval()));
+    let rnset = rval.put(out, Var(place.rnset()));
+    let c = context(out, rnset, place);
+    let not = c.put(out, Not);
+    let left = not.put(out, Bin(AND));
+    left.put(out, Set(place.rnset()))
 }
 
 // Between the branches of an IF its condition becomes its `~`.
-pub(crate) fn flip(out: &mut [u32], to: Emitter, slots: u32, ifs: u32) -> Emitter
-    requires { (slots ≤ 32) × (ifs ≤ 16) }
-    ensures { sheet out.new result ≡ flips (layout slots) ifs (sheet out.old to) }
+pub(crate) fn flip(out: &mut [u32], to: Emitter, place: Place) -> Emitter
+    requires { Small place }
+    ensures { sheet out.new result ≡ flips (layout place.slots) place.ifs (sheet out.old to) }
 {
-    let x = slots + 2 + ifs;
-    let old = to.put(out, 11, x, 0, 0);
-    let not = old.put(out, 13, 0, 0, 0);
-    not.put(out, 17, x, 0, 0)
+    let x = place.condition();
+    let old = to.put(out, Var(x));
+    let not = old.put(out, Not);
+    not.put(out, Set(x))
 }

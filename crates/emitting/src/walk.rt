@@ -1,8 +1,8 @@
 // Where a walk over a table stands: the reader and the emitter.
-ghost use Rattle.std.specs.Prelude.{◌≡◌, List, ℕ};
+ghost use Rattle.std.specs.Prelude.{◌≡◌};
 ghost use Rattle.tape.specs.Named.{named};
-ghost use Rattle.emitting.specs.Emitting.{sheet, puts};
-ghost use Rattle.emitting.specs.Walking.{desk, desk_of, on};
+ghost use Rattle.emitting.specs.Emitting.{puts};
+ghost use Rattle.emitting.specs.Walking.{desk_of, on};
 
 use crate::emitter::Emitter;
 use tape::instruction::Instruction;
@@ -17,13 +17,13 @@ pub struct Walk {
 impl Walk {
     // With the reader, or the emitter, moved on.
     pub fn reading(self, reader: Reader) -> Self
-        ensures { (out : List ℕ) → desk_of out result ≡ desk (sheet out self.emitter) reader.at }
+        ensures { (result.reader ≡ reader) × (result.emitter ≡ self.emitter) }
     {
         Walk { reader, ..self }
     }
 
     pub fn with(self, emitter: Emitter) -> Self
-        ensures { (out : List ℕ) → desk_of out result ≡ desk (sheet out emitter) self.reader.at }
+        ensures { (result.reader ≡ self.reader) × (result.emitter ≡ emitter) }
     {
         Walk { emitter, ..self }
     }

@@ -122,12 +122,12 @@ module _ (t : List ℕ) (m : ℕ) (a : Passed t m) (funcs arguments memory : Lis
 
   -- ---- the answer
   pub answered : goes_on t s.fors s.passes s.regs limit ≡ false
-      → ◌≡◌ {A = Result} (record { answer = answer_at t s.fors s.operands s.regs; memory = s.memory }) (result_of (code_of t) (after (code_of t) arguments memory limit))
+      → ◌≡◌ {A = Result} (record { answer = Ok (answer_at t s.fors s.operands s.regs); memory = s.memory }) (result_of (code_of t) (after (code_of t) arguments memory limit))
   unfolding answer_at result_of pick place quiet
   answered g = by p.stands_for p.rest
     where
       Answers : Machine → Type 0
-      Answers M = ◌≡◌ {A = Result} (record { answer = answer_at t s.fors s.operands s.regs; memory = s.memory }) (result_of (code_of t) M)
+      Answers M = ◌≡◌ {A = Result} (record { answer = Ok (answer_at t s.fors s.operands s.regs); memory = s.memory }) (result_of (code_of t) M)
 
       by : {M : Machine} → Stands t s M → stands (sizes t) (entry_at (code_of t)) (limit - s.regs.steps) M ≡ after (code_of t) arguments memory limit
           → Answers (after (code_of t) arguments memory limit)

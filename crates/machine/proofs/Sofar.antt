@@ -8,6 +8,7 @@ use Rattle.word.specs.Records.{records, record_at}
 use Rattle.tape.specs.Instruction.{code_of, read, end}
 use Rattle.tape.proofs.Places.{Passed}
 use Rattle.machine.specs.Run.{Result, after, result_of}
+use Rattle.std.specs.Prelude.{Ok}
 use Rattle.machine.specs.Flat.{Flat, flat_by, goes_on, answer_at, Ready, Looping, Ending, Entered}
 use Rattle.machine.proofs.Tables.{checked, stored}
 use Rattle.machine.proofs.Going.{Along, work_left, goes, along_next}
@@ -61,6 +62,6 @@ module _ {t starts funcs : List ℕ} {first : ℕ} {arguments memory : List ℕ}
   sofar_ending = ending t m a funcs arguments memory limit p.entered.functions s p.along
 
   pub sofar_answer : goes_on t s.fors s.passes s.regs limit ≡ false
-      → ◌≡◌ {A = Result} (record { answer = answer_at t s.fors s.operands s.regs; memory = s.memory }) (result_of (code_of t) (after (code_of t) arguments memory limit))
+      → ◌≡◌ {A = Result} (record { answer = Ok (answer_at t s.fors s.operands s.regs); memory = s.memory }) (result_of (code_of t) (after (code_of t) arguments memory limit))
   unfolding m a
   sofar_answer = answered t m a funcs arguments memory limit p.entered.functions s p.along

@@ -14,7 +14,6 @@ use Rattle.machine.specs.declared.registers.Registers.{Registers}
 use Rattle.machine.specs.declared.Ran.{Ran}
 use Rattle.machine.specs.declared.Ran.TheVariants.{Done, Stopped}
 use Rattle.std.specs.Prelude.{Ok, Err}
-use Rattle.word.specs.Refusals.{OrRefused}
 
 -- `fors` and `passes` hold, for each open loop, the record of its FOR and its present number; `backs` and `bases`, for each open call, the record
 -- to go back to and where the caller's slots begin
@@ -229,10 +228,10 @@ unfoldable pub goes_on : List ℕ → List ℕ → List ℕ → Registers → �
 goes_on t fors passes g most =
     pick (ltb g.at (records t)) (pick (ltb g.steps most) true (free_by (read (record_at t g.at)) t fors passes g.loops)) false
 
-unfoldable pub answer_at : List ℕ → List ℕ → List ℕ → Registers → OrRefused Ran
+unfoldable pub answer_at : List ℕ → List ℕ → List ℕ → Registers → Ran
 answer_at t fors operands g =
-    pick (ltb g.at (records t)) (Ok (Stopped g.steps (pick (eqb (record_at t g.at).kind 20) (get_or fors (g.loops - 1) 0) g.at)))
-    (Ok (Done (get_or operands (g.operands - 1) 0) g.steps))
+    pick (ltb g.at (records t)) (Stopped g.steps (pick (eqb (record_at t g.at).kind 20) (get_or fors (g.loops - 1) 0) g.at))
+    (Done (get_or operands (g.operands - 1) 0) g.steps)
 
 -- what `answer` requires, and what `execute` does: the tape was checked, its tables are `starts` and `funcs`, and `first` is where the exposed function
 -- begins; so many arguments and bytes are given as it takes

@@ -1,5 +1,5 @@
 // A run of a checked tape: admitted (31, 32), begun inside the exposed function, and stepped until it is done or the limit is reached.
-ghost use Rattle.std.specs.Prelude.{◌≡◌, true, ℕ, ◌+◌, ◌-◌, ◌<◌, ◌≤◌, ◌^◌, length, get_or};
+ghost use Rattle.std.specs.Prelude.{◌≡◌, true, ℕ, ◌+◌, ◌-◌, ◌<◌, ◌≤◌, ◌^◌, length, get_or, Ok};
 ghost use Rattle.word.specs.Records.{records, record_at};
 ghost use Rattle.tape.specs.Instruction.{read, end, code_of};
 ghost use Rattle.tape.specs.Check.{check};
@@ -12,6 +12,7 @@ use crate::layout::{lay_out, list_functions};
 use crate::reading::record;
 use crate::registers::Registers;
 use crate::step::{is_free, step};
+use word::Refusal;
 
 // Whether the run goes on: it is on the tape, and the limit allows the record at hand or that counts nothing.
 fn going(tape: &[u32], fors: &[u32; 128], passes: &[u32; 128], g: Registers, most: u64) -> bool
@@ -61,7 +62,7 @@ fn execute(
     limit: u32,
 ) -> Ran
     requires { Entered tape.now starts.now funcs.now first (length arguments.now) (length memory.old) }
-    ensures { record { answer = result; memory = memory.new }
+    ensures { record { answer = Ok result; memory = memory.new }
         ≡ result_of (code_of tape.now) (after (code_of tape.now) arguments.now memory.old limit) }
 {
     let head = record(tape, first);
@@ -101,7 +102,12 @@ fn execute(
 }
 
 // 31 and 32, else the run.
-pub(crate) fn admit(tape: &[u32], arguments: &[u32], memory: &mut [u8], limit: u32) -> Ran
+pub(crate) fn admit(
+    tape: &[u32],
+    arguments: &[u32],
+    memory: &mut [u8],
+    limit: u32,
+) -> Result<Ran, Refusal>
     requires { is_accepted (check tape.now) ≡ true }
     ensures { record { answer = result; memory = memory.new }
         ≡ admitted (code_of tape.now) arguments.now memory.old limit }
@@ -111,18 +117,18 @@ pub(crate) fn admit(tape: &[u32], arguments: &[u32], memory: &mut [u8], limit: u
     let first = functions.places[functions.count - 1] as usize;
     let head = record(tape, first);
     if arguments.len() != head.p as usize {
-        return Ran::Refused {
+        return Err(Refusal {
             number: 31,
             place: 0,
-        };
+        });
     }
     if memory.len() != arrays.total as usize {
-        return Ran::Refused {
+        return Err(Refusal {
             number: 32,
             place: 0,
-        };
+        });
     }
-    execute(
+    Ok(execute(
         tape,
         &arrays.starts,
         &functions.places,
@@ -130,5 +136,5 @@ pub(crate) fn admit(tape: &[u32], arguments: &[u32], memory: &mut [u8], limit: u
         arguments,
         memory,
         limit,
-    )
+    ))
 }

@@ -15,25 +15,21 @@ ghost use Rattle.machine.specs.Run.{run};
 
 use checker::check::check;
 use course::admit;
-use tape::Checked;
+use word::Refusal;
 
-// Done, with the value and the steps; Stopped by the limit, with the steps done and the record of the next counted step; or Refused.
-#[derive(Clone, Copy)]
+// Done, with the value and the steps; or Stopped by the limit, with the steps done and the record of the next counted step.
+#[derive(Clone, Copy, Debug, PartialEq, Eq)]
 pub enum Ran {
     Done { value: u32, steps: u32 },
     Stopped { steps: u32, record: usize },
-    Refused { number: u32, place: usize },
 }
 
 // Checks the tape (21 to 30), admits the run (31, 32) and runs it: the answer and the bytes at exit are those of the core rules. A refusal leaves every byte
 // as it was.
-pub fn run(tape: &[u32], arguments: &[u32], memory: &mut [u8], limit: u32) -> Ran
+pub fn run(tape: &[u32], arguments: &[u32], memory: &mut [u8], limit: u32) -> Result<Ran, Refusal>
     ensures { record { answer = result; memory = memory.new }
         ≡ run tape.now arguments.now memory.old limit }
 {
-    let checked = check(tape);
-    match checked {
-        Checked::Accepted { steps: _ } => admit(tape, arguments, memory, limit),
-        Checked::Refused { number, place } => Ran::Refused { number, place },
-    }
+    check(tape)?;
+    admit(tape, arguments, memory, limit)
 }

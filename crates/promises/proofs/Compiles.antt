@@ -41,6 +41,7 @@ use Rattle.promises.proofs.Runs.{stands, Counted, counted}
 use Rattle.std.specs.Prelude.{Ok, Err}
 use Rattle.word.specs.Refusals.{refuse}
 use Rattle.translation.specs.Compile.{announced}
+use Rattle.translation.specs.declared.Tape.{Tape}
 
 clash : {A : Type 0} {number place n steps : ℕ} → ◌≡◌ {A = Compiled} (refuse number place) (Ok (announced n steps)) → A
 clash e = let z : ◌≡◌ {A = ℕ} 0 1 = cc in absurd (omega arith)
@@ -56,6 +57,9 @@ pub record Comes (table out : List ℕ) (n steps : ℕ) : Type 0 where
   pub steps_are : steps ≡ steps_exposed (translate script)
   pub out_is : (compile table out).out ≡ sets out 0 (tape (translate script))
 
+told : {v w : Tape} → ◌≡◌ {A = Compiled} (Ok v) (Ok w) → v ≡ w
+told e = cc
+
 module _ (table out : List ℕ) (n steps : ℕ) (h : (compile table out).answer ≡ Ok (announced n steps)) where
   comes : Comes table out n steps
   unfolding compile compile_by unless_fault written
@@ -70,8 +74,8 @@ module _ (table out : List ℕ) (n steps : ℕ) (h : (compile table out).answer 
             reads = e;
             stages_pass = f;
             room = leb-true _ _ q;
-            records_are = cc;
-            steps_are = cc;
+            records_are = ap (λ (w : Tape). w.records) (told (sym a));
+            steps_are = ap (λ (w : Tape). w.steps) (told (sym a));
             out_is = rw (e, f, q) refl;
           }
       roomy p i false q e f = clash (rw (e, f, q) at h)

@@ -25,7 +25,7 @@ use Rattle.machine.specs.declared.Ran.{Ran}
 use Rattle.machine.specs.declared.Ran.TheVariants.{Done, Stopped}
 use Rattle.promises.specs.Runs.{Runs, Turned, by_check, by_arguments, by_memory, goes_through, records_of, end_of}
 use Rattle.std.specs.Prelude.{Ok, Err}
-use Rattle.word.specs.Refusals.{refuse}
+use Rattle.word.specs.Refusals.{OrRefused, refuse}
 
 -- ---- REFUSES EXACTLY: a run is refused under the listed conditions and no others, the first of them first, and then no byte changes
 never_refused : (c : Code) (k : Machine) (number place : ℕ) → (result_of c k).answer ≡ refuse number place → ⊥
@@ -34,14 +34,12 @@ never_refused c (at d s τ L F w) number place e = let z : ◌≡◌ {A = ℕ} 0
 never_refused c (halted v w) number place e = let z : ◌≡◌ {A = ℕ} 0 1 = cc in omega arith
 never_refused c stuck number place e = let z : ◌≡◌ {A = ℕ} 0 1 = cc in omega arith
 
-number_of : Ran → ℕ
-number_of (Ok (Done value steps)) = 0
-number_of (Ok (Stopped steps record')) = 0
+number_of : OrRefused Ran → ℕ
+number_of (Ok a) = 0
 number_of (Err r) = r.number
 
-place_of : Ran → ℕ
-place_of (Ok (Done value steps)) = 0
-place_of (Ok (Stopped steps record')) = 0
+place_of : OrRefused Ran → ℕ
+place_of (Ok a) = 0
 place_of (Err r) = r.place
 
 module _ (t arguments memory : List ℕ) (limit : ℕ) where
@@ -142,7 +140,7 @@ lockstep t arguments memory arguments₁ memory₁ m r r₁ =
     }
 
 -- ---- ONE ANSWER: two answers that meet the contract of `run` are equal
-pub one_answer : (t arguments memory : List ℕ) (limit : ℕ) (r r₁ : Ran) (exit exit₁ : List ℕ)
+pub one_answer : (t arguments memory : List ℕ) (limit : ℕ) (r r₁ : OrRefused Ran) (exit exit₁ : List ℕ)
     → record { answer = r; memory = exit } ≡ run t arguments memory limit → record { answer = r₁; memory = exit₁ } ≡ run t arguments memory limit
     → (r ≡ r₁) × (exit ≡ exit₁)
 one_answer t arguments memory limit r r₁ exit exit₁ e e₁ = (ap (λ (x : Result). x.answer) (e ∙ sym e₁), ap (λ (x : Result). x.memory) (e ∙ sym e₁))

@@ -10,7 +10,7 @@ use Rattle.machine.specs.Run.{begin}
 use Rattle.machine.specs.declared.Ran.{Ran}
 use Rattle.machine.specs.declared.Ran.TheVariants.{Done, Stopped}
 use Rattle.std.specs.Prelude.{Ok, Err}
-use Rattle.word.specs.Refusals.{refuse}
+use Rattle.word.specs.Refusals.{OrRefused, refuse}
 
 -- the tape is accepted, with these steps; there are as many arguments as the exposed function takes, and as many bytes as its arrays have
 pub record Runs (t arguments memory : List ℕ) (steps : ℕ) : Type 0 where
@@ -40,7 +40,7 @@ pub data End : Type 0 where
   stopped : (steps record' : ℕ) → End
   refused : (number place : ℕ) → End
 
-unfoldable pub end_of : Ran → End
+unfoldable pub end_of : OrRefused Ran → End
 end_of (Ok (Done value steps)) = done steps
 end_of (Ok (Stopped steps record')) = stopped steps record'
 end_of (Err r) = refused r.number r.place

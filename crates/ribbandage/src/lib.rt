@@ -1,5 +1,5 @@
 // The library that others link: the compiler, the check and the machine as C functions. A refusal's number is 0 where there is none.
-#![tactic(auto)]
+#![tactic(auto, unfolding(crate::specs::Answers::compiled, crate::specs::Answers::checked, crate::specs::Answers::ran))]
 
 ghost use Rattle.std.specs.Prelude.{◌≡◌};
 ghost use Rattle.tape.specs.Check.{check};
@@ -9,8 +9,8 @@ ghost use Rattle.ribbandage.specs.Answers.{compiled, checked, ran};
 
 use checker::check::check;
 use machine::Ran;
-use tape::Checked;
-use translation::Compiled;
+use translation::Tape;
+use word::Refusal;
 
 // A table that was compiled: the records written and the exposed function's steps; or the refusal's number and place.
 #[repr(C)]
@@ -43,43 +43,89 @@ pub struct RibbandRan {
     pub place: usize,
 }
 
+impl From<Result<Tape, Refusal>> for RibbandCompiled {
+    ghost from_gives = { λ answer it. it ≡ compiled answer };
+
+    fn from(answer: Result<Tape, Refusal>) -> RibbandCompiled {
+        match answer {
+            Ok(Tape { records, steps }) => RibbandCompiled {
+                number: 0,
+                steps,
+                records,
+                place: 0,
+            },
+            Err(Refusal { number, place }) => RibbandCompiled {
+                number,
+                steps: 0,
+                records: 0,
+                place,
+            },
+        }
+    }
+}
+
+impl From<Result<u32, Refusal>> for RibbandChecked {
+    ghost from_gives = { λ answer it. it ≡ checked answer };
+
+    fn from(answer: Result<u32, Refusal>) -> RibbandChecked {
+        match answer {
+            Ok(steps) => RibbandChecked {
+                number: 0,
+                steps,
+                place: 0,
+            },
+            Err(Refusal { number, place }) => RibbandChecked {
+                number,
+                steps: 0,
+                place,
+            },
+        }
+    }
+}
+
+impl From<Result<Ran, Refusal>> for RibbandRan {
+    ghost from_gives = { λ answer it. it ≡ ran answer };
+
+    fn from(answer: Result<Ran, Refusal>) -> RibbandRan {
+        match answer {
+            Ok(Ran::Done { value, steps }) => RibbandRan {
+                case: 0,
+                number: 0,
+                value,
+                steps,
+                place: 0,
+            },
+            Ok(Ran::Stopped { steps, record }) => RibbandRan {
+                case: 1,
+                number: 0,
+                value: 0,
+                steps,
+                place: record,
+            },
+            Err(Refusal { number, place }) => RibbandRan {
+                case: 2,
+                number,
+                value: 0,
+                steps: 0,
+                place,
+            },
+        }
+    }
+}
+
 #[unsafe(no_mangle)]
 pub extern "C" fn ribband_compile(table: &[u32], out: &mut [u32]) -> RibbandCompiled
     ensures { (result ≡ compiled (compile table.now out.old).answer)
         × (out.new ≡ (compile table.now out.old).out) }
 {
-    match compiler::compile(table, out) {
-        Compiled::Tape { records, steps } => RibbandCompiled {
-            number: 0,
-            steps,
-            records,
-            place: 0,
-        },
-        Compiled::Refused { number, place } => RibbandCompiled {
-            number,
-            steps: 0,
-            records: 0,
-            place,
-        },
-    }
+    compiler::compile(table, out).into()
 }
 
 #[unsafe(no_mangle)]
 pub extern "C" fn ribband_check(tape: &[u32]) -> RibbandChecked
     ensures { result ≡ checked (check tape.now) }
 {
-    match check(tape) {
-        Checked::Accepted { steps } => RibbandChecked {
-            number: 0,
-            steps,
-            place: 0,
-        },
-        Checked::Refused { number, place } => RibbandChecked {
-            number,
-            steps: 0,
-            place,
-        },
-    }
+    check(tape).into()
 }
 
 #[unsafe(no_mangle)]
@@ -92,27 +138,5 @@ pub extern "C" fn ribband_run(
     ensures { (result ≡ ran (run tape.now arguments.now memory.old limit).answer)
         × (memory.new ≡ (run tape.now arguments.now memory.old limit).memory) }
 {
-    match machine::run(tape, arguments, memory, limit) {
-        Ran::Done { value, steps } => RibbandRan {
-            case: 0,
-            number: 0,
-            value,
-            steps,
-            place: 0,
-        },
-        Ran::Stopped { steps, record } => RibbandRan {
-            case: 1,
-            number: 0,
-            value: 0,
-            steps,
-            place: record,
-        },
-        Ran::Refused { number, place } => RibbandRan {
-            case: 2,
-            number,
-            value: 0,
-            steps: 0,
-            place,
-        },
-    }
+    machine::run(tape, arguments, memory, limit).into()
 }

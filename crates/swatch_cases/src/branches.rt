@@ -1,70 +1,65 @@
 // IFs: the oatmeal script, whose condition a branch changes; a condition that is a number; and how deep IFs may lie.
-ghost use Rattle.std.specs.Prelude.{◌≡◌, ◌≤◌, length};
+ghost use Rattle.std.specs.Prelude.{◌≤◌};
 
 use crate::records::{
     ADD, BIN, DEF, FALSE, FUNC, IF, LT, MUL, NUM, PROGRAM, RETURN, SEQ, SET, SKIP, TRUE, VAR,
 };
-use crate::showing::show;
+use crate::showing::Case;
 use std::io;
 
 pub fn show_branches(rt: &impl Print) -> io::Result<()> {
-    show_oatmeal(rt, b"oatmeal of 10", 10)?;
-    show_oatmeal(rt, b"oatmeal of 200", 200)?;
+    show_oatmeal(rt, "oatmeal of 10", 10)?;
+    show_oatmeal(rt, "oatmeal of 200", 200)?;
     let number = [
         PROGRAM, 1, 0, 0, FUNC, 0, 0, 0, IF, 0, 0, 0, NUM, 1, 0, 0, SKIP, 0, 0, 0, SKIP, 0, 0, 0,
     ];
-    show(rt, b"condition NUM 1", &number, &[], &mut [], 4294967295)?;
-    show_nested(rt, b"8 nested IFs", 8)?;
-    show_nested(rt, b"9 nested IFs", 9)
+    Case::new("condition NUM 1", &number).show(rt)?;
+    show_nested(rt, "8 nested IFs", 8)?;
+    show_nested(rt, "9 nested IFs", 9)
 }
 
 // f := p < 128; x := p; if f then (f := FALSE; x := x * 2) else x := x + 100; return x. Slots: p 0, f 1, x 2.
-fn show_oatmeal(rt: &impl Print, name: &[u8], p: u32) -> io::Result<()> {
+fn show_oatmeal(rt: &impl Print, name: &str, p: u32) -> io::Result<()> {
     let table = [
         PROGRAM, 1, 0, 0, FUNC, 1, 3, 0, SEQ, 4, 0, 0, DEF, 1, 0, 0, BIN, LT, 0, 0, VAR, 0, 0, 0,
         NUM, 128, 0, 0, DEF, 2, 0, 0, VAR, 0, 0, 0, IF, 0, 0, 0, VAR, 1, 0, 0, SEQ, 2, 0, 0, SET,
         1, 0, 0, FALSE, 0, 0, 0, SET, 2, 0, 0, BIN, MUL, 0, 0, VAR, 2, 0, 0, NUM, 2, 0, 0, SET, 2,
         0, 0, BIN, ADD, 0, 0, VAR, 2, 0, 0, NUM, 100, 0, 0, RETURN, 0, 0, 0, VAR, 2, 0, 0,
     ];
-    show(rt, name, &table, &[p], &mut [], 4294967295)
+    Case::new(name, &table).arguments(&[p]).show(rt)
 }
 
 // So many IFs of TRUE, one within another, each in the first branch of the one round it.
-fn show_nested(rt: &impl Print, name: &[u8], n: u32) -> io::Result<()> {
-    let mut table = [0u32; 128];
-    let words = nested(&mut table, n);
-    show(rt, name, &table[..words], &[], &mut [], 4294967295)
+fn show_nested(rt: &impl Print, name: &str, n: u32) -> io::Result<()> {
+    let mut table = Table {
+        words: [0; 128],
+        len: 0,
+    };
+    table.put(PROGRAM, 1);
+    table.put(FUNC, 0);
+    for _ in 0..n {
+        table.put(IF, 0);
+        table.put(TRUE, 0);
+    }
+    for _ in 0..=n {
+        table.put(SKIP, 0);
+    }
+    Case::new(name, &table.words[..table.len]).show(rt)
 }
 
-fn nested(table: &mut [u32], n: u32) -> usize
-    ensures { result ≤ length table.new }
-{
-    let mut at = put(table, 0, PROGRAM, 1);
-    at = put(table, at, FUNC, 0);
-    let mut i = 0u32;
-    while i < n {
-        at = put(table, at, IF, 0);
-        at = put(table, at, TRUE, 0);
-        i += 1;
-    }
-    at = put(table, at, SKIP, 0);
-    let mut j = 0u32;
-    while j < n {
-        at = put(table, at, SKIP, 0);
-        j += 1;
-    }
-    at
+// A table that is written record by record, where there is room.
+#[derive(Drop)]
+struct Table {
+    words: [u32; 128],
+    len: usize,
+    ghost within: { len ≤ 128 },
 }
 
-// One record, where there is room for it: the place after it.
-fn put(table: &mut [u32], at: usize, kind: u32, p: u32) -> usize
-    requires { at ≤ length table.old }
-    ensures { (result ≤ length table.new) × (length table.new ≡ length table.old) }
-{
-    if at + 4 <= table.len() {
-        table[at] = kind;
-        table[at + 1] = p;
-        return at + 4;
+impl Table {
+    fn put(&mut self, kind: u32, p: u32) {
+        if self.len + 4 <= self.words.len() {
+            self.words[self.len..self.len + 4].copy_from_slice(&[kind, p, 0, 0]);
+            self.len += 4;
+        }
     }
-    at
 }

@@ -1,89 +1,66 @@
 // Compiles a table, runs its tape, and prints what both answer. An output of 1,024 records is more than any case needs.
-ghost use Rattle.std.specs.Prelude.{◌≤◌, length};
-
 use machine::Ran;
 use std::io;
-use translation::Compiled;
 
-pub fn show(
-    rt: &impl Print,
-    name: &[u8],
-    table: &[u32],
-    arguments: &[u32],
-    memory: &mut [u8],
+// A table, what its tape is run on, and the limit of its steps.
+#[derive(Drop)]
+pub struct Case<'a> {
+    name: &'a str,
+    table: &'a [u32],
+    arguments: &'a [u32],
+    memory: &'a mut [u8],
     limit: u32,
-) -> io::Result<()> {
-    let mut out = [0u32; 4096];
-    say(rt, name)?;
-    let answer = compiler::compile(table, &mut out);
-    show_answer(rt, answer, &out, arguments, memory, limit)?;
-    say(rt, b"\n")
 }
 
-fn show_answer(
-    rt: &impl Print,
-    answer: Compiled,
-    out: &[u32],
-    arguments: &[u32],
-    memory: &mut [u8],
-    limit: u32,
-) -> io::Result<()> {
-    match answer {
-        Compiled::Tape { records, steps: _ } => {
-            show_run(rt, out, records, arguments, memory, limit)
+impl<'a> Case<'a> {
+    // No arguments, no memory, and as many steps as can be asked for.
+    pub fn new(name: &'a str, table: &'a [u32]) -> Self {
+        Case {
+            name,
+            table,
+            arguments: &[],
+            memory: &mut [],
+            limit: u32::MAX,
         }
-        Compiled::Refused { number, place } => refused(rt, number, place),
     }
-}
 
-// The records that were written are the tape.
-fn show_run(
-    rt: &impl Print,
-    out: &[u32],
-    records: usize,
-    arguments: &[u32],
-    memory: &mut [u8],
-    limit: u32,
-) -> io::Result<()> {
-    if records <= out.len() / 4 {
-        return run(rt, &out[..records * 4], arguments, memory, limit);
+    pub fn arguments(self, arguments: &'a [u32]) -> Self {
+        Case { arguments, ..self }
     }
-    Ok(())
-}
 
-fn run(
-    rt: &impl Print,
-    tape: &[u32],
-    arguments: &[u32],
-    memory: &mut [u8],
-    limit: u32,
-) -> io::Result<()> {
-    count(rt, b": ", tape.len() as u64 / 4, b" records")?;
-    let ran = machine::run(tape, arguments, memory, limit);
-    match ran {
-        Ran::Done { value, steps } => {
-            count(rt, b", value ", value as u64, b"")?;
-            count(rt, b" in ", steps as u64, b" steps")
+    pub fn memory(self, memory: &'a mut [u8]) -> Self {
+        Case { memory, ..self }
+    }
+
+    pub fn limit(self, limit: u32) -> Self {
+        Case { limit, ..self }
+    }
+
+    // The records that were written are the tape.
+    pub fn show(self, rt: &impl Print) -> io::Result<()> {
+        let name = self.name;
+        let mut out = [0u32; 4096];
+        print!(rt; "{name}")?;
+        match compiler::compile(self.table, &mut out) {
+            Ok(tape) => self.run(rt, &out[..4 * tape.records.min(out.len() / 4)]),
+            Err(refusal) => refused(rt, refusal.number, refusal.place),
         }
-        Ran::Stopped { steps, record } => {
-            count(rt, b", stopped after ", steps as u64, b" steps")?;
-            count(rt, b" at record ", record as u64, b"")
+    }
+
+    fn run(self, rt: &impl Print, tape: &[u32]) -> io::Result<()> {
+        let records = tape.len() / 4;
+        let memory = self.memory;
+        print!(rt; ": {records} records")?;
+        match machine::run(tape, self.arguments, memory, self.limit) {
+            Ok(Ran::Done { value, steps }) => println!(rt; ", value {value} in {steps} steps"),
+            Ok(Ran::Stopped { steps, record }) => {
+                println!(rt; ", stopped after {steps} steps at record {record}")
+            }
+            Err(refusal) => refused(rt, refusal.number, refusal.place),
         }
-        Ran::Refused { number, place } => refused(rt, number, place),
     }
 }
 
 fn refused(rt: &impl Print, number: u32, place: usize) -> io::Result<()> {
-    count(rt, b": refused ", number as u64, b"")?;
-    count(rt, b" at record ", place as u64, b"")
-}
-
-fn count(rt: &impl Print, before: &[u8], n: u64, after: &[u8]) -> io::Result<()> {
-    say(rt, before)?;
-    print!(rt; "{n}")?;
-    say(rt, after)
-}
-
-fn say(rt: &impl Print, text: &[u8]) -> io::Result<()> {
-    rt.write_all(text)
+    println!(rt; ": refused {number} at record {place}")
 }

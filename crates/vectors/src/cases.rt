@@ -1,140 +1,110 @@
 // The cases, one after another, and what is counted of them.
-ghost use Rattle.std.specs.Prelude.{◌≡◌, ◌≤◌, length};
-
-use crate::compiling::compile_case;
-use crate::decoding::{number, words};
-use crate::running::{Outcome, run_case};
+use crate::compiling::{Compiled, compile_case};
+use crate::decoding::Cases;
+use crate::running::{run_case, run_plain};
+use std::alloc::{AllocError, Global};
+use std::fmt;
 use word::operators::plus;
 
-// Where the walk over the file stands: the place; how many words the latest compiled tape has, and the latest tape that stood in the file; which of the two
-// is the later one; and what was counted so far.
-#[derive(Clone, Copy)]
-pub struct Standing {
-    pub at: usize,
-    pub own: usize,
-    pub given: usize,
-    pub own_is_later: bool,
-    pub compiled: u32,
-    pub run: u32,
-    pub plain: u32,
-    pub differ: u32,
+// What a case does, by its number in the file. A number that stands for nothing is taken as the last.
+#[derive(Clone, Copy, Debug, PartialEq, Eq)]
+enum Kind {
+    Compile,
+    Run,
+    Plain,
+    RunLast,
 }
 
-pub fn all_cases(file: &[u8], own: &mut [u32], given: &mut [u32]) -> Standing {
-    let version = number(file, 4);
-    let n = number(file, version.at);
-    let mut s = Standing {
-        at: n.at,
-        own: 0,
-        given: 0,
-        own_is_later: false,
-        compiled: 0,
-        run: 0,
-        plain: 0,
-        differ: 0,
+impl From<u32> for Kind {
+    fn from(number: u32) -> Kind {
+        match number {
+            1 => Kind::Compile,
+            2 => Kind::Run,
+            3 => Kind::Plain,
+            _ => Kind::RunLast,
+        }
+    }
+}
+
+#[derive(Clone, Copy, Debug, Default, PartialEq, Eq)]
+pub struct Counts {
+    compiled: u32,
+    run: u32,
+    plain: u32,
+    differ: u32,
+}
+
+impl fmt::Display for Counts {
+    fn fmt<W: fmt::Write>(&self, f: &mut fmt::Formatter<W>) -> fmt::Result {
+        let Counts {
+            compiled,
+            run,
+            plain,
+            differ,
+        } = self;
+        write!(
+            f,
+            "compiled {compiled}\nrun {run}\nplain {plain}\ndiffer {differ}"
+        )
+    }
+}
+
+// The latest tape that was compiled, and the one that stood in the file, where that is the later one.
+#[derive(Drop)]
+struct Latest {
+    own: Vec<u32>,
+    given: Option<Vec<u32>>,
+}
+
+pub fn all_cases(alloc: Global, mut cases: Cases) -> Result<Counts, AllocError> {
+    let _version = cases.number();
+    let mut latest = Latest {
+        own: Vec::new(alloc),
+        given: None,
     };
-    let mut i = 0;
-    while i < n.value {
-        s = one_case(file, own, given, s);
-        i += 1;
+    let mut counts = Counts::default();
+    for _ in 0..cases.number() {
+        let fine = one_case(alloc, &mut cases, &mut latest, &mut counts)?;
+        if !fine {
+            counts.differ = plus(counts.differ, 1);
+        }
     }
-    s
+    Ok(counts)
 }
 
-// COMPILE; RUN; PLAIN, which is run on the tape that was compiled; RUNLAST.
-fn one_case(file: &[u8], own: &mut [u32], given: &mut [u32], s: Standing) -> Standing
-    requires { (s.own ≤ length own.old) × (s.given ≤ length given.old) }
-    ensures { (result.own ≤ length own.new) × (result.given ≤ length given.new)
-        × (length own.new ≡ length own.old) × (length given.new ≡ length given.old) }
-{
-    let kind = number(file, s.at);
-    let which = kind.value;
-    match which {
-        1 => compiled(file, kind.at, own, s),
-        2 => run_given(file, kind.at, given, s),
-        3 => run_plain(file, kind.at, own, s.own, s),
-        _ => run_last(file, kind.at, own, given, s),
-    }
-}
-
-fn compiled(file: &[u8], at: usize, own: &mut [u32], s: Standing) -> Standing
-    requires { s.own ≤ length own.old }
-    ensures { (result.own ≤ length own.new) × (result.given ≡ s.given) × (length own.new ≡ length own.old) }
-{
-    let c = compile_case(file, at, own, s.own);
-    Standing {
-        at: c.at,
-        own: c.count,
-        given: s.given,
-        own_is_later: s.own_is_later | c.accepted,
-        compiled: plus(s.compiled, 1),
-        run: s.run,
-        plain: s.plain,
-        differ: differ(s.differ, c.fine),
-    }
-}
-
-// One more differs, or not.
-fn differ(count: u32, fine: bool) -> u32 {
-    if fine { count } else { plus(count, 1) }
-}
-
-// The tape stands in the file.
-fn run_given(file: &[u8], at: usize, given: &mut [u32], s: Standing) -> Standing
-    ensures { (result.given ≤ length given.new) × (result.own ≡ s.own) × (length given.new ≡ length given.old) }
-{
-    let t = words(file, at, given);
-    let o = run_first(file, t.at, given, t.count, false);
-    counted(s, o, t.count, false)
-}
-
-// The tape is the first words of the list.
-fn run_first(file: &[u8], at: usize, tape: &[u32], count: usize, plain: bool) -> Outcome
-    requires { count ≤ length tape.now }
-{
-    run_case(file, at, &tape[..count], plain)
-}
-
-fn run_last(file: &[u8], at: usize, own: &[u32], given: &[u32], s: Standing) -> Standing
-    requires { (s.own ≤ length own.now) × (s.given ≤ length given.now) }
-    ensures { (result.own ≡ s.own) × (result.given ≡ s.given) }
-{
-    if s.own_is_later {
-        let o = run_first(file, at, own, s.own, false);
-        return counted(s, o, s.given, true);
-    }
-    let o = run_first(file, at, given, s.given, false);
-    counted(s, o, s.given, false)
-}
-
-fn counted(s: Standing, o: Outcome, given: usize, own_is_later: bool) -> Standing
-    ensures { (result.own ≡ s.own) × (result.given ≡ given) }
-{
-    Standing {
-        at: o.at,
-        own: s.own,
-        given,
-        own_is_later,
-        compiled: s.compiled,
-        run: plus(s.run, 1),
-        plain: s.plain,
-        differ: differ(s.differ, o.fine),
-    }
-}
-
-fn run_plain(file: &[u8], at: usize, own: &[u32], count: usize, s: Standing) -> Standing
-    requires { count ≤ length own.now }
-    ensures { (result.own ≡ s.own) × (result.given ≡ s.given) }
-{
-    let o = run_first(file, at, own, count, true);
-    Standing {
-        at: o.at,
-        own: s.own,
-        given: s.given,
-        own_is_later: s.own_is_later,
-        compiled: s.compiled,
-        run: s.run,
-        plain: plus(s.plain, 1),
-        differ: differ(s.differ, o.fine),
+// Whether its answer came out.
+fn one_case(
+    alloc: Global,
+    cases: &mut Cases,
+    latest: &mut Latest,
+    counts: &mut Counts,
+) -> Result<bool, AllocError> {
+    match Kind::from(cases.number()) {
+        Kind::Compile => {
+            counts.compiled = plus(counts.compiled, 1);
+            let Compiled { tape, fine } = compile_case(alloc, cases)?;
+            if let Some(tape) = tape {
+                *latest = Latest {
+                    own: tape,
+                    given: None,
+                };
+            }
+            Ok(fine)
+        }
+        Kind::Run => {
+            counts.run = plus(counts.run, 1);
+            let tape = cases.words(alloc)?;
+            let fine = run_case(alloc, cases, &tape)?;
+            latest.given = Some(tape);
+            Ok(fine)
+        }
+        Kind::Plain => {
+            counts.plain = plus(counts.plain, 1);
+            run_plain(alloc, cases, &latest.own)
+        }
+        Kind::RunLast => {
+            counts.run = plus(counts.run, 1);
+            run_case(alloc, cases, latest.given.as_ref().unwrap_or(&latest.own))
+        }
     }
 }

@@ -1,113 +1,57 @@
-// A case that is run: its answer and every byte of its memory are compared. A PLAIN case is run to its end, and its value and bytes compared.
+// A case that is run: its answer and every byte of its memory are compared. Of a plain meaning the value and the bytes are.
 ghost use Rattle.std.specs.Prelude.{◌≡◌, length};
 
-use crate::decoding::{Value, bytes, changes, number, same, words};
+use crate::decoding::Cases;
 use machine::Ran;
+use std::alloc::{AllocError, Global};
+use word::Refusal;
 
-// A run's answer in the file: its case, the two numbers, and the place after it. The case of a plain meaning is 3, with its value.
-#[derive(Clone, Copy)]
-pub struct Wanted {
-    pub case: u32,
-    pub first: u32,
-    pub second: u32,
-    pub at: usize,
+// Runs the tape on the arguments, memory and limit that stand in the file: whether its answer came out.
+pub fn run_case(alloc: Global, cases: &mut Cases, tape: &[u32]) -> Result<bool, AllocError> {
+    let arguments = cases.words(alloc)?;
+    let bytes = cases.bytes();
+    let limit = cases.number();
+    let mut memory = bytes.to_vec(alloc)?;
+    let mut expected = bytes.to_vec(alloc)?;
+    let answer = answer(cases, &mut expected);
+    Ok(machine::run(tape, &arguments, &mut memory, limit) == answer && memory == expected)
 }
 
-// A case that was run: the place after it, and whether its answer came out.
-#[derive(Clone, Copy)]
-pub struct Outcome {
-    pub at: usize,
-    pub fine: bool,
-}
-
-// Runs the tape on the arguments, memory and limit that stand in the file.
-pub fn run_case(file: &[u8], at: usize, tape: &[u32], plain: bool) -> Outcome {
-    let mut list = [0u32; 16];
-    let mut memory = [0u8; 32768];
-    let mut expected = [0u8; 32768];
-    let a = words(file, at, &mut list);
-    let m = bytes(file, a.at, &mut memory);
-    let e = bytes(file, a.at, &mut expected);
-    let limit = limit(file, m.at, plain);
-    let wanted = answer_in(file, limit.at, plain, &mut expected);
-    Outcome {
-        at: wanted.at,
-        fine: comes_out(
-            tape,
-            &list[..a.count],
-            &mut memory[..m.count],
-            &expected[..e.count],
-            limit.value,
-            wanted,
-        ),
-    }
-}
-
-// A plain meaning has no limit.
-fn limit(file: &[u8], at: usize, plain: bool) -> Value {
-    if plain {
-        return Value {
-            value: 4294967295,
-            at,
-        };
-    }
-    number(file, at)
-}
-
-// The answer in the file; its changes are made in the memory.
-fn answer_in(file: &[u8], at: usize, plain: bool, memory: &mut [u8]) -> Wanted
+// The answer in the file. Its changes are made in the memory, which a refusal leaves as it was.
+fn answer(cases: &mut Cases, memory: &mut [u8]) -> Result<Ran, Refusal>
     ensures { length memory.new ≡ length memory.old }
 {
-    let case = number(file, at);
-    if plain {
-        return Wanted {
-            case: 3,
-            first: case.value,
-            second: 0,
-            at: changes(file, case.at, memory),
-        };
+    let case = cases.number();
+    let first = cases.number();
+    let second = cases.number();
+    let answer = match case {
+        0 => Ok(Ran::Done {
+            value: first,
+            steps: second,
+        }),
+        1 => Ok(Ran::Stopped {
+            steps: first,
+            record: second as usize,
+        }),
+        _ => Err(Refusal {
+            number: first,
+            place: second as usize,
+        }),
+    };
+    if answer.is_ok() {
+        cases.changes(memory);
     }
-    let first = number(file, case.at);
-    let second = number(file, first.at);
-    if case.value == 2 {
-        return Wanted {
-            case: 2,
-            first: first.value,
-            second: second.value,
-            at: second.at,
-        };
-    }
-    Wanted {
-        case: case.value,
-        first: first.value,
-        second: second.value,
-        at: changes(file, second.at, memory),
-    }
+    answer
 }
 
-fn comes_out(
-    tape: &[u32],
-    arguments: &[u32],
-    memory: &mut [u8],
-    expected: &[u8],
-    limit: u32,
-    wanted: Wanted,
-) -> bool {
-    let fine = is_wanted(machine::run(tape, arguments, memory, limit), wanted);
-    fine & same(memory, expected)
-}
-
-fn is_wanted(ran: Ran, wanted: Wanted) -> bool {
-    match ran {
-        Ran::Done { value, steps } => {
-            (wanted.first == value)
-                & ((wanted.case == 3) | ((wanted.case == 0) & (wanted.second == steps)))
-        }
-        Ran::Stopped { steps, record } => {
-            (wanted.case == 1) & (wanted.first == steps) & (wanted.second as usize == record)
-        }
-        Ran::Refused { number, place } => {
-            (wanted.case == 2) & (wanted.first == number) & (wanted.second as usize == place)
-        }
-    }
+// Runs the tape to its end: whether the value and the bytes came out.
+pub fn run_plain(alloc: Global, cases: &mut Cases, tape: &[u32]) -> Result<bool, AllocError> {
+    let arguments = cases.words(alloc)?;
+    let bytes = cases.bytes();
+    let wanted = cases.number();
+    let mut memory = bytes.to_vec(alloc)?;
+    let mut expected = bytes.to_vec(alloc)?;
+    cases.changes(&mut expected);
+    let ran = machine::run(tape, &arguments, &mut memory, u32::MAX);
+    Ok(matches!(ran, Ok(Ran::Done { value, .. }) if value == wanted) && memory == expected)
 }

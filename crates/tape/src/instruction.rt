@@ -23,9 +23,7 @@ pub enum Instruction {
     Ret(u32),
 }
 
-use Instruction::{
-    Bin, CFunc, Call, Def, End, For, Get, Lit, Not, Put, Ret, Set, Var,
-};
+use Instruction::{Bin, CFunc, Call, Def, End, For, Get, Lit, Not, Put, Ret, Set, Var};
 
 // Four words.
 fn words(kind: u32, p: u32, q: u32, r: u32) -> Record

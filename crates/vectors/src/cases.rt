@@ -49,6 +49,9 @@ impl fmt::Display for Counts {
     }
 }
 
+// More words than a tape of the file has.
+const GIVEN: usize = 4096;
+
 // The latest tape that was compiled, and the one that stood in the file, where that is the later one.
 #[derive(Drop)]
 struct Latest {
@@ -93,7 +96,7 @@ fn one_case(
         }
         Kind::Run => {
             counts.run = plus(counts.run, 1);
-            let tape = cases.words(alloc)?;
+            let tape = cases.words(alloc, GIVEN)?;
             let fine = run_case(alloc, cases, &tape)?;
             latest.given = Some(tape);
             Ok(fine)

@@ -10,6 +10,9 @@ const MARK: u32 = 7;
 // More words than the longest tape of the file needs: a longer output would be given the same answer.
 const ROOM: usize = 20480;
 
+// As many as a table has at most, and some more.
+const TABLE: usize = 16400;
+
 // A table that was compiled: the tape, where the file has the table accepted, and whether its answer came out.
 #[derive(Drop)]
 pub struct Compiled {
@@ -18,10 +21,10 @@ pub struct Compiled {
 }
 
 pub fn compile_case(alloc: Global, cases: &mut Cases) -> Result<Compiled, AllocError> {
-    let room = (cases.number() as usize).min(ROOM);
-    let table = cases.words(alloc)?;
-    let mut out = vec![in alloc; MARK; room]?;
-    let answer = compiler::compile(&table, &mut out);
+    let given = (cases.number() as usize).min(ROOM);
+    let table = cases.words(alloc, TABLE)?;
+    let mut out = vec![in alloc; MARK; ROOM]?;
+    let answer = compiler::compile(&table, &mut out[..given]);
     if cases.number() != 0 {
         let refusal = Refusal {
             number: cases.number(),
@@ -32,13 +35,13 @@ pub fn compile_case(alloc: Global, cases: &mut Cases) -> Result<Compiled, AllocE
             fine: answer == Err(refusal) && untouched(&out),
         });
     }
-    let words = cases.words(alloc)?;
+    let (words, same) = cases.compare(&out);
     let tape = Tape {
-        records: words.len() / 4,
+        records: words / 4,
         steps: cases.number(),
     };
-    let fine = answer == Ok(tape) && out.strip_prefix(&words).is_some_and(untouched);
-    out.truncate(words.len());
+    let fine = answer == Ok(tape) && same && out.get(words..).is_some_and(untouched);
+    out.truncate(words);
     Ok(Compiled {
         tape: Some(out),
         fine,

@@ -1,6 +1,5 @@
-// Reading the file of cases: numbers, lists of words, runs of bytes (data/FORMAT.md). Any bytes may stand in it; where it ends early, what is missing is 0,
-// and a list or a run has no more elements than there are bytes left.
-ghost use Rattle.std.specs.Prelude.{◌≡◌, ◌≤◌, length};
+// Reading the file of cases: numbers, lists of words, runs of bytes (data/FORMAT.md). Any bytes may stand in it; where it ends early, what is missing is 0.
+ghost use Rattle.std.specs.Prelude.{◌≡◌, length};
 
 use std::alloc::{AllocError, Global};
 use word::operators::{plus, times};
@@ -41,38 +40,39 @@ impl<'a> Cases<'a> {
         *b
     }
 
-    // How many elements follow: each has a byte at least.
-    fn count(&mut self) -> usize
-        ensures { result ≤ length self.new.rest.now }
-    {
-        let n = self.number() as usize;
-        n.min(self.rest.len())
-    }
-
-    // A count and so many numbers.
-    pub fn words(&mut self, alloc: Global) -> Result<Vec<u32>, AllocError> {
-        let n = self.count();
+    // A count and so many numbers, of which those within the room are read.
+    pub fn words(&mut self, alloc: Global, room: usize) -> Result<Vec<u32>, AllocError> {
+        let n = (self.number() as usize).min(room);
         (0..n).map(|_| self.number()).collect(alloc)
     }
 
-    // A count and so many bytes.
-    pub fn bytes(&mut self) -> &'a [u8] {
-        let n = self.count();
-        let (bytes, rest) = self.rest.split_at(n);
-        self.rest = rest;
-        bytes
+    // A count and so many bytes, of which those within the room are read.
+    pub fn bytes(&mut self, alloc: Global, room: usize) -> Result<Vec<u8>, AllocError> {
+        let n = (self.number() as usize).min(room);
+        (0..n).map(|_| self.byte()).collect(alloc)
     }
 
     // A count and so many bytes, each after its position: these bytes of the memory are changed.
     pub fn changes(&mut self, memory: &mut [u8])
         ensures { length memory.new ≡ length memory.old }
     {
-        for _ in 0..self.count() {
+        for _ in 0..self.number() {
             let place = self.number() as usize;
             let value = self.byte();
             if let Some(b) = memory.get_mut(place) {
                 *b = value;
             }
         }
+    }
+
+    // A count and so many numbers, beside the words of a list: how many there are, and whether the list begins with them.
+    pub fn compare(&mut self, list: &[u32]) -> (usize, bool) {
+        let n = self.number() as usize;
+        let mut same = true;
+        for i in 0..n {
+            let x = self.number();
+            same = same && list.get(i) == Some(&x);
+        }
+        (n, same)
     }
 }

@@ -12,9 +12,12 @@ use cases::all_cases;
 use decoding::Cases;
 use std::{fs, io};
 
+// No more of a file is read.
+const LONGEST: usize = 1600000;
+
 fn main(rt: HostRuntime) -> io::Result<()> {
     let file = fs::read(&rt, "base.bin")?;
-    let Some(cases) = Cases::new(&file) else {
+    let Some(cases) = Cases::new(&file[..file.len().min(LONGEST)]) else {
         return eprintln!(rt; "base.bin is no file of cases");
     };
     let counts = all_cases(rt.alloc(), cases)?;

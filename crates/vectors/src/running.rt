@@ -6,52 +6,74 @@ use machine::Ran;
 use std::alloc::{AllocError, Global};
 use word::Refusal;
 
+// More arguments and bytes than a tape of the file takes.
+const ARGUMENTS: usize = 16;
+
+const MEMORY: usize = 32768;
+
+// What stands in the file: a run's answer, a plain meaning's value, or what no run answers.
+#[derive(Clone, Copy, Debug, PartialEq, Eq)]
+enum Wanted {
+    Answer(Result<Ran, Refusal>),
+    Value(u32),
+    Nothing,
+}
+
 // Runs the tape on the arguments, memory and limit that stand in the file: whether its answer came out.
 pub fn run_case(alloc: Global, cases: &mut Cases, tape: &[u32]) -> Result<bool, AllocError> {
-    let arguments = cases.words(alloc)?;
-    let bytes = cases.bytes();
+    let arguments = cases.words(alloc, ARGUMENTS)?;
+    let mut memory = cases.bytes(alloc, MEMORY)?;
+    let mut expected = memory.to_vec(alloc)?;
     let limit = cases.number();
-    let mut memory = bytes.to_vec(alloc)?;
-    let mut expected = bytes.to_vec(alloc)?;
-    let answer = answer(cases, &mut expected);
-    Ok(machine::run(tape, &arguments, &mut memory, limit) == answer && memory == expected)
+    let wanted = answer(cases, &mut expected);
+    Ok(comes_out(tape, &arguments, &mut memory, limit, wanted) && memory == expected)
+}
+
+// Runs the tape to its end: whether the value and the bytes came out.
+pub fn run_plain(alloc: Global, cases: &mut Cases, tape: &[u32]) -> Result<bool, AllocError> {
+    let arguments = cases.words(alloc, ARGUMENTS)?;
+    let mut memory = cases.bytes(alloc, MEMORY)?;
+    let mut expected = memory.to_vec(alloc)?;
+    let wanted = Wanted::Value(cases.number());
+    cases.changes(&mut expected);
+    Ok(comes_out(tape, &arguments, &mut memory, u32::MAX, wanted) && memory == expected)
 }
 
 // The answer in the file. Its changes are made in the memory, which a refusal leaves as it was.
-fn answer(cases: &mut Cases, memory: &mut [u8]) -> Result<Ran, Refusal>
+fn answer(cases: &mut Cases, memory: &mut [u8]) -> Wanted
     ensures { length memory.new ≡ length memory.old }
 {
     let case = cases.number();
     let first = cases.number();
     let second = cases.number();
-    let answer = match case {
-        0 => Ok(Ran::Done {
-            value: first,
-            steps: second,
-        }),
-        1 => Ok(Ran::Stopped {
-            steps: first,
-            record: second as usize,
-        }),
-        _ => Err(Refusal {
+    if case == 2 {
+        return Wanted::Answer(Err(Refusal {
             number: first,
             place: second as usize,
-        }),
-    };
-    if answer.is_ok() {
-        cases.changes(memory);
+        }));
     }
-    answer
+    cases.changes(memory);
+    match case {
+        0 => Wanted::Answer(Ok(Ran::Done {
+            value: first,
+            steps: second,
+        })),
+        1 => Wanted::Answer(Ok(Ran::Stopped {
+            steps: first,
+            record: second as usize,
+        })),
+        3 => Wanted::Value(first),
+        _ => Wanted::Nothing,
+    }
 }
 
-// Runs the tape to its end: whether the value and the bytes came out.
-pub fn run_plain(alloc: Global, cases: &mut Cases, tape: &[u32]) -> Result<bool, AllocError> {
-    let arguments = cases.words(alloc)?;
-    let bytes = cases.bytes();
-    let wanted = cases.number();
-    let mut memory = bytes.to_vec(alloc)?;
-    let mut expected = bytes.to_vec(alloc)?;
-    cases.changes(&mut expected);
-    let ran = machine::run(tape, &arguments, &mut memory, u32::MAX);
-    Ok(matches!(ran, Ok(Ran::Done { value, .. }) if value == wanted) && memory == expected)
+fn comes_out(tape: &[u32], arguments: &[u32], memory: &mut [u8], limit: u32, wanted: Wanted) -> bool
+    ensures { length memory.new ≡ length memory.old }
+{
+    let ran = machine::run(tape, arguments, memory, limit);
+    match wanted {
+        Wanted::Answer(answer) => ran == answer,
+        Wanted::Value(wanted) => matches!(ran, Ok(Ran::Done { value, .. }) if value == wanted),
+        Wanted::Nothing => false,
+    }
 }

@@ -7,7 +7,7 @@ ghost use Rattle.compiler.specs.Writing.{rolls, heads, copy, walk_f, walk_fs, wa
 use crate::masks::Place;
 use crate::statement::statement;
 use emitting::emitter::Emitter;
-use emitting::walk::Walk;
+use emitting::walk::{Source, Walk};
 use tape::held::sum;
 use tape::instruction::Instruction::{CFunc, Def, Lit, Ret};
 use word::operators::{FALSE, TRUE};
@@ -85,7 +85,8 @@ fn function(
     let depth = depths.get(f as usize).copied().unwrap_or(0);
     let emitter = head(out, from.emitter, x.p, slots, depth);
     let first = Walk { reader, emitter };
-    let body = statement(table, params, out, first, Place { slots, ifs: 0 }, 16);
+    let source = Source { table, params };
+    let body = statement(source, out, first, Place { slots, ifs: 0 }, 16);
     let last = body.put(out, Ret(slots));
     keep(params, f, x.p);
     last

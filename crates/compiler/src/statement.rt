@@ -9,47 +9,47 @@ ghost use Rattle.compiler.specs.Writing.{Small};
 
 use crate::masks::{Place, assign, flip, give, masked, store_at};
 use emitting::expression::expression;
-use emitting::walk::Walk;
+use emitting::walk::{Source, Walk};
 use tape::instruction::Instruction::{Def, End, For};
 use word::Record;
 
 // DEF x e.
 #[tactic(auto, unfolding(tape::specs::Named::named))]
-fn define(table: &[u32], params: &[u32], out: &mut [u32], from: Walk, x: u32) -> Walk
-    ensures { desk_of out.new result ≡ on (puts (def x)) (walk_e params.now table.now 16 (desk_of out.old from)) }
+fn define(source: Source, out: &mut [u32], from: Walk, x: u32) -> Walk
+    ensures { desk_of out.new result ≡ on (puts (def x)) (walk_e source.entry.params.now source.entry.table.now 16 (desk_of out.old from)) }
 {
-    let e = expression(table, params, out, from, 16);
+    let e = expression(source, out, from, 16);
     e.put(out, Def(x))
 }
 
 // SET x e.
-fn set(table: &[u32], params: &[u32], out: &mut [u32], from: Walk, place: Place, x: u32) -> Walk
+fn set(source: Source, out: &mut [u32], from: Walk, place: Place, x: u32) -> Walk
     requires { Small place }
-    ensures { desk_of out.new result ≡ on (assigns (layout place.slots) place.ifs x) (walk_e params.now table.now 16 (desk_of out.old from)) }
+    ensures { desk_of out.new result ≡ on (assigns (layout place.slots) place.ifs x) (walk_e source.entry.params.now source.entry.table.now 16 (desk_of out.old from)) }
 {
-    let e = expression(table, params, out, from, 16);
+    let e = expression(source, out, from, 16);
     e.with(assign(out, e.emitter, place, x))
 }
 
 // PUT a i e: the index is written twice.
 #[tactic(auto, unfolding(emitting::specs::Walking::putting))]
-fn put(table: &[u32], params: &[u32], out: &mut [u32], from: Walk, place: Place, a: u32) -> Walk
+fn put(source: Source, out: &mut [u32], from: Walk, place: Place, a: u32) -> Walk
     requires { Small place }
-    ensures { desk_of out.new result ≡ putting params.now table.now (layout place.slots) place.ifs a (desk_of out.old from) }
+    ensures { desk_of out.new result ≡ putting source.entry.params.now source.entry.table.now (layout place.slots) place.ifs a (desk_of out.old from) }
 {
-    let i = expression(table, params, out, from, 16);
-    let e = expression(table, params, out, i, 16);
+    let i = expression(source, out, from, 16);
+    let e = expression(source, out, i, 16);
     let second = from.with(masked(out, e.emitter, place));
-    let again = expression(table, params, out, second, 16);
+    let again = expression(source, out, second, 16);
     e.with(store_at(out, again.emitter, place, a))
 }
 
 // RETURN e.
-fn give_back(table: &[u32], params: &[u32], out: &mut [u32], from: Walk, place: Place) -> Walk
+fn give_back(source: Source, out: &mut [u32], from: Walk, place: Place) -> Walk
     requires { Small place }
-    ensures { desk_of out.new result ≡ on (gives (layout place.slots) place.ifs) (walk_e params.now table.now 16 (desk_of out.old from)) }
+    ensures { desk_of out.new result ≡ on (gives (layout place.slots) place.ifs) (walk_e source.entry.params.now source.entry.table.now 16 (desk_of out.old from)) }
 {
-    let e = expression(table, params, out, from, 16);
+    let e = expression(source, out, from, 16);
     e.with(give(out, e.emitter, place))
 }
 
@@ -63,44 +63,36 @@ fn flipped(out: &mut [u32], from: Walk, place: Place) -> Walk
 
 // A statement that holds no other: SKIP, DEF, SET, PUT or RETURN, whose record was read.
 #[tactic(auto, unfolding(script::specs::Table::read_s, emitting::specs::Walking::head_s))]
-fn single(
-    table: &[u32],
-    params: &[u32],
-    out: &mut [u32],
-    here: Walk,
-    place: Place,
-    x: Record,
-) -> Walk
+fn single(source: Source, out: &mut [u32], here: Walk, place: Place, x: Record) -> Walk
     requires { Small place × (x.kind ≡ 31 → ⊥) × (x.kind ≡ 35 → ⊥) × (x.kind ≡ 36 → ⊥) }
-    ensures { (f : ℕ → Desk → Desk) → desk_of out.new result ≡ head_s params.now table.now (layout place.slots) f place.ifs (desk_of out.old here) (read_s x) }
+    ensures { (f : ℕ → Desk → Desk) → desk_of out.new result ≡ head_s source.entry.params.now source.entry.table.now (layout place.slots) f place.ifs (desk_of out.old here) (read_s x) }
 {
     let kind = x.kind;
     match kind {
         30 => here,
-        32 => define(table, params, out, here, x.p),
-        33 => set(table, params, out, here, place, x.p),
-        34 => put(table, params, out, here, place, x.p),
-        _ => give_back(table, params, out, here, place),
+        32 => define(source, out, here, x.p),
+        33 => set(source, out, here, place, x.p),
+        34 => put(source, out, here, place, x.p),
+        _ => give_back(source, out, here, place),
     }
 }
 
 // The statement where the walk stands, which may hold others to the depth `left`, itself counted.
 #[tactic(auto, using(emitting::proofs::Stepping::times_more, emitting::proofs::Stepping::times_over, emitting::proofs::Stepping::walk_s_none, emitting::proofs::Stepping::walk_s_end, emitting::proofs::Stepping::walk_s_found), unfolding(tape::specs::Named::named, emitting::specs::Walking::head_s, emitting::specs::Walking::looping, emitting::specs::Walking::branching))]
 pub(crate) fn statement(
-    table: &[u32],
-    params: &[u32],
+    source: Source,
     out: &mut [u32],
     from: Walk,
     place: Place,
     left: u32,
 ) -> Walk
     requires { (place.slots ≤ 32) × (place.ifs + left ≤ 16) }
-    ensures { desk_of out.new result ≡ walk_s params.now table.now (layout place.slots) left place.ifs (desk_of out.old from) }
+    ensures { desk_of out.new result ≡ walk_s source.entry.params.now source.entry.table.now (layout place.slots) left place.ifs (desk_of out.old from) }
 {
     if left == 0 {
         return from;
     }
-    let Some((x, next)) = from.reader.next(table) else {
+    let Some((x, next)) = from.reader.next(source.table) else {
         return from;
     };
     let here = from.reading(next);
@@ -110,7 +102,7 @@ pub(crate) fn statement(
             let parts = x.p;
             let mut last = here;
             for i in 0..parts {
-                last = statement(table, params, out, last, place, left - 1);
+                last = statement(source, out, last, place, left - 1);
             }
             last
         }
@@ -123,20 +115,20 @@ pub(crate) fn statement(
                     to: x.r,
                 },
             );
-            let body = statement(table, params, out, open, place, left - 1);
+            let body = statement(source, out, open, place, left - 1);
             body.put(out, End)
         }
         36 => {
             // its condition, into the slot that it has
-            let first = define(table, params, out, here, place.condition());
+            let first = define(source, out, here, place.condition());
             let inside = Place {
                 ifs: place.ifs + 1,
                 ..place
             };
-            let then = statement(table, params, out, first, inside, left - 1);
+            let then = statement(source, out, first, inside, left - 1);
             let second = flipped(out, then, place);
-            statement(table, params, out, second, inside, left - 1)
+            statement(source, out, second, inside, left - 1)
         }
-        _ => single(table, params, out, here, place, x),
+        _ => single(source, out, here, place, x),
     }
 }

@@ -7,7 +7,7 @@ ghost use Rattle.tape.specs.Named.{named};
 ghost use Rattle.emitting.specs.Emitting.{puts};
 ghost use Rattle.emitting.specs.Walking.{on, desk_of, lowered_code, arity, own, walk_e};
 
-use crate::walk::Walk;
+use crate::walk::{Source, Walk};
 use tape::instruction::Instruction;
 use word::Record;
 use word::operators::{FALSE, TRUE};
@@ -56,19 +56,19 @@ fn own(x: Record) -> Instruction
 
 // The expression where the walk stands, which may hold others to the depth `left`, itself counted.
 #[tactic(auto, using(crate::proofs::Stepping::times_more, crate::proofs::Stepping::times_over, crate::proofs::Stepping::walk_e_none, crate::proofs::Stepping::walk_e_end, crate::proofs::Stepping::walk_e_found))]
-pub fn expression(table: &[u32], params: &[u32], out: &mut [u32], from: Walk, left: u32) -> Walk
-    ensures { desk_of out.new result ≡ walk_e params.now table.now left (desk_of out.old from) }
+pub fn expression(source: Source, out: &mut [u32], from: Walk, left: u32) -> Walk
+    ensures { desk_of out.new result ≡ walk_e source.entry.params.now source.entry.table.now left (desk_of out.old from) }
 {
     if left == 0 {
         return from;
     }
-    let Some((x, next)) = from.reader.next(table) else {
+    let Some((x, next)) = from.reader.next(source.table) else {
         return from;
     };
-    let parts = arity(x, params);
+    let parts = arity(x, source.params);
     let mut here = from.reading(next);
     for i in 0..parts {
-        here = expression(table, params, out, here, left - 1);
+        here = expression(source, out, here, left - 1);
     }
     here.put(out, own(x))
 }

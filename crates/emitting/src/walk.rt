@@ -1,4 +1,4 @@
-// Where a walk over a table stands: the reader and the emitter.
+// A walk over a table: what it reads, and where it stands, the reader and the emitter.
 ghost use Rattle.std.specs.Prelude.{◌≡◌};
 ghost use Rattle.tape.specs.Named.{named};
 ghost use Rattle.emitting.specs.Emitting.{puts};
@@ -7,6 +7,13 @@ ghost use Rattle.emitting.specs.Walking.{desk_of, on};
 use crate::emitter::Emitter;
 use tape::instruction::Instruction;
 use word::reader::Reader;
+
+// What a walk reads: the table, and how many parameters each function has, as far as it is known.
+#[derive(Clone, Copy)]
+pub struct Source<'a> {
+    pub table: &'a [u32],
+    pub params: &'a [u32],
+}
 
 #[derive(Clone, Copy, Debug, PartialEq, Eq)]
 pub struct Walk {

@@ -13,19 +13,19 @@ use Rattle.compiler.proofs.statement.+statement.Goals.{In-Some}
 
 -- where a record was found: the walk enters the statement that it begins
 enters : (t : ℕ) (c : In-Some t) → let a = c.args in
-    walk_s a.params.now a.table.now (layout a.place.slots) a.left a.place.ifs (desk_of a.out.now a.from) ≡
-    head_s a.params.now a.table.now (layout a.place.slots) (walk_s a.params.now a.table.now (layout a.place.slots) (a.left - 1))
+    walk_s a.source.params.now a.source.table.now (layout a.place.slots) a.left a.place.ifs (desk_of a.out.now a.from) ≡
+    head_s a.source.params.now a.source.table.now (layout a.place.slots) (walk_s a.source.params.now a.source.table.now (layout a.place.slots) (a.left - 1))
     a.place.ifs (desk (sheet a.out.now a.from.emitter) c.in-Some.next.at) (read_s c.in-Some.x)
 enters t c =
     let a = c.args in
-    walk_s_found a.params.now a.table.now (layout a.place.slots) a.left a.place.ifs (desk_of a.out.now a.from) c.in-Some.x c.in-Some.next (omega arith) (sym c.in-Some.ensures)
+    walk_s_found a.source.params.now a.source.table.now (layout a.place.slots) a.left a.place.ifs (desk_of a.out.now a.from) c.in-Some.x c.in-Some.next (omega arith) (sym c.in-Some.ensures)
 
 pub returns-after-loop-i : goal.returns-after-loop-i
 unfolding head_s
 returns-after-loop-i t c =
     let a = c.args in
     let whole = rw (head_seq c.in-Some.x c.in-31.is) at (enters t (goal.at.returns-after-loop-i t c).In-Some) in
-    let all = times_over (walk_s a.params.now a.table.now (layout a.place.slots) (a.left - 1) a.place.ifs) c.in-Some.x.p c.loop-i.i (desk_of c.loop-i.out c.loop-i.last) (omega arith) in
+    let all = times_over (walk_s a.source.params.now a.source.table.now (layout a.place.slots) (a.left - 1) a.place.ifs) c.in-Some.x.p c.loop-i.i (desk_of c.loop-i.out c.loop-i.last) (omega arith) in
     grind arith
 
 pub returns-in-35 : goal.returns-in-35
@@ -44,5 +44,5 @@ pub returns-in_default-kind : goal.returns-in_default-kind
 returns-in_default-kind t c =
     let a = c.args in
     let whole = enters t (goal.at.returns-in_default-kind t c).In-Some in
-    let one = c.single.ensures (walk_s a.params.now a.table.now (layout a.place.slots) (a.left - 1)) in
+    let one = c.single.ensures (walk_s a.source.params.now a.source.table.now (layout a.place.slots) (a.left - 1)) in
     grind arith

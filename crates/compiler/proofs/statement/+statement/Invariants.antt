@@ -10,5 +10,5 @@ decreases-statement l = l.left
 
 abbrev pub invariant-loop-i : goal.invariant-loop-i
 invariant-loop-i l =
-    times (l.parts - l.i) (walk_s l.params l.table (layout l.place.slots) (l.left - 1) l.place.ifs) (desk_of l.out l.last)
-    ≡ times l.parts (walk_s l.params l.table (layout l.place.slots) (l.left - 1) l.place.ifs) (desk_of l.initial.out l.initial.last)
+    times (l.parts - l.i) (walk_s l.source.params.now l.source.table.now (layout l.place.slots) (l.left - 1) l.place.ifs) (desk_of l.out l.last)
+    ≡ times l.parts (walk_s l.source.params.now l.source.table.now (layout l.place.slots) (l.left - 1) l.place.ifs) (desk_of l.initial.out l.initial.last)

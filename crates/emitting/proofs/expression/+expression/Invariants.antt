@@ -9,5 +9,5 @@ decreases-expression l = l.left
 
 abbrev pub invariant-loop-i : goal.invariant-loop-i
 invariant-loop-i l =
-    times (l.parts - l.i) (walk_e l.params l.table (l.left - 1)) (desk_of l.out l.here)
-    ≡ times l.parts (walk_e l.params l.table (l.left - 1)) (desk_of l.initial.out l.initial.here)
+    times (l.parts - l.i) (walk_e l.source.params.now l.source.table.now (l.left - 1)) (desk_of l.out l.here)
+    ≡ times l.parts (walk_e l.source.params.now l.source.table.now (l.left - 1)) (desk_of l.initial.out l.initial.here)

@@ -15,7 +15,8 @@ use Rattle.scoping.proofs.Found.{finds}
 use Rattle.tape.specs.Instruction.{def as core_def, end as core_end}
 use Rattle.translation.specs.Translate.{lowered, EXT, EXTs, layout, merge, STT, STTs}
 use Rattle.emitting.specs.Emitting.{Sheet, puts, lay_e, lay_es, lay_s, masks, merges, assigns, stores, gives, flips}
-use Rattle.emitting.specs.Walking.{Desk, desk, on, times, looping, lowered_code, arity, own, walk_e, putting, branching, head_s, walk_s}
+use Rattle.script.specs.Shape.{parts_in}
+use Rattle.emitting.specs.Walking.{Desk, desk, on, times, looping, lowered_code, own, walk_e, putting, branching, head_s, walk_s}
 use Rattle.emitting.proofs.Stepping.{walk_e_found, walk_s_found}
 
 -- && and ||, by their codes
@@ -58,13 +59,13 @@ module _ (t : List ℕ) (v : Env) where
 
   -- ---- expressions
   head_e_lem : (h : HeadE) (left at : ℕ) (s : Sheet) {rest : List Record} → from t at ≡ write_e h ∷ rest → 1 ≤ left
-      → (walk_e v.params t left (desk s at) ≡ on (own h) (times (arity v.params h) (walk_e v.params t (left - 1)) (desk s (at + 1))))
+      → (walk_e v.params t left (desk s at) ≡ on (own h) (times (parts_in v.params h) (walk_e v.params t (left - 1)) (desk s (at + 1))))
       × (from t (at + 1) ≡ rest)
   unfolding expression
   head_e_lem h left at s is some =
       let (read, rest) = finds t at is in (
         walk_e_found v.params t left (desk s at) _ _ (omega arith) read
-            ∙ ap (λ (g : HeadE). on (own g) (times (arity v.params g) (walk_e v.params t (left - 1)) (desk s (at + 1)))) (expression_lawful.again h),
+            ∙ ap (λ (g : HeadE). on (own g) (times (parts_in v.params g) (walk_e v.params t (left - 1)) (desk s (at + 1)))) (expression_lawful.again h),
         rest,
       )
 
@@ -72,7 +73,7 @@ module _ (t : List ℕ) (v : Env) where
   leaf e h = rw e h
 
   mutual
-    unfolding list_e depth_e InE size_e count_e own arity times EXT lay_e
+    unfolding list_e depth_e InE size_e count_e own parts_in times EXT lay_e
 
     expr_walked : (x : Expr) (left at end : ℕ) (s : Sheet) {rest : List Record} → from t at ≡ list_e x rest → depth_e x ≤ left → InE v x → end ≡ at + size_e x
         → Leaves (walk_e v.params t left (desk s at)) (lay_e (EXT x) s) end rest

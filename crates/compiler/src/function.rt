@@ -1,5 +1,5 @@
 // Functions, and a whole table: what is kept of each function for those after it.
-ghost use Rattle.std.specs.Prelude.{◌≡◌, ◌≤◌, min, set as keep};
+ghost use Rattle.std.specs.Prelude.{◌≡◌, ◌≤◌};
 ghost use Rattle.emitting.specs.Emitting.{sheet};
 ghost use Rattle.emitting.specs.Walking.{desk_of, times};
 ghost use Rattle.compiler.specs.Writing.{rolls, heads, copy, walk_f, walk_fs, walk_p};
@@ -8,20 +8,11 @@ use crate::masks::Place;
 use crate::statement::statement;
 use emitting::emitter::Emitter;
 use emitting::walk::{Source, Walk};
+use scoping::passes::note;
 use tape::held::sum;
 use tape::instruction::Instruction::{CFunc, Def, Lit, Ret};
 use word::operators::{FALSE, TRUE};
 use word::reader::Reader;
-
-// A row says v of function f from now on, if it has a place for it.
-fn keep(row: &mut [u32], f: u32, v: u32)
-    ensures { row.new ≡ keep row.old f v }
-{
-    let i = f as usize;
-    if i < row.len() {
-        row[i] = v;
-    }
-}
 
 // CFUNC, rval and rnset.
 #[tactic(auto, unfolding(tape::specs::Named::named, crate::specs::Writing::heads))]
@@ -66,7 +57,7 @@ fn copied_one(table: &[u32], out: &mut [u32], from: Walk) -> Walk
 }
 
 // Function f: its own records round its body's; and what is kept of it. A table that was read has 32 slots at most in a function.
-#[tactic(auto, using(crate::proofs::Tables::walk_f_end, crate::proofs::Tables::walk_f_found), unfolding(tape::specs::Named::named, crate::specs::Writing::body_of))]
+#[tactic(auto, using(crate::proofs::Tables::walk_f_end, crate::proofs::Tables::walk_f_found), unfolding(tape::specs::Named::named, scoping::specs::Passes::noted, crate::specs::Writing::body_of))]
 fn function(
     table: &[u32],
     depths: &[u32],
@@ -88,7 +79,7 @@ fn function(
     let source = Source { table, params };
     let body = statement(source, out, first, Place { slots, ifs: 0 }, 16);
     let last = body.put(out, Ret(slots));
-    keep(params, f, x.p);
+    note(params, f as usize, x.p);
     last
 }
 

@@ -49,10 +49,10 @@ use Rattle.costing.proofs.Kept.{rest_from, steps_rest, Says, says_more, deeps_af
 use Rattle.std.specs.Prelude.{Ok, Err}
 use Rattle.word.specs.Refusals.{refuse}
 
--- a row keeps what is noted of the first sixteen
+-- a row keeps what is noted
 keeps : (row : List ℕ) (f n : ℕ) → f < 16 → noted row f n ≡ keep row f n
 unfolding noted
-keeps row f n h = rw (lt-ltb f 16 h) refl
+keeps row f n h = refl
 
 -- ---- one function
 module _ (t : List ℕ) where

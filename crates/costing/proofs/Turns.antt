@@ -125,11 +125,7 @@ module _ (t : List ℕ) where
 -- ---- the row of depths keeps its length
 noted_length : (row : List ℕ) (f n : ℕ) → length (noted row f n) ≡ length row
 unfolding noted
-noted_length row f n = by (ltb f 16)
-  where
-    by : (b : Bool) → length (cond b (keep row f n) row) ≡ length row
-    by true = length-set row f n
-    by false = refl
+noted_length row f n = length-set row f n
 
 module _ (t : List ℕ) where
   function_length : (f : ℕ) (z : Totals) (r : Read) → length (function_by t f z r).depths ≡ length z.depths

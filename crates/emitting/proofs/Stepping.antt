@@ -8,8 +8,9 @@ use Rattle.word.specs.declared.Record.{Record}
 use Rattle.word.specs.declared.reader.Reader.{Reader}
 use Rattle.std.specs.Prelude.{Some, None}
 use Rattle.script.specs.Table.{read_e, read_s}
+use Rattle.script.specs.Shape.{parts_in}
 use Rattle.translation.specs.Translate.{Layout}
-use Rattle.emitting.specs.Walking.{Desk, desk, on, times, arity, own, enter_e, walk_e, head_s, enter_s, walk_s}
+use Rattle.emitting.specs.Walking.{Desk, desk, on, times, own, enter_e, walk_e, head_s, enter_s, walk_s}
 
 -- ---- some parts of n
 module _ (f : Desk → Desk) (n i : ℕ) (z : Desk) where
@@ -42,7 +43,7 @@ module _ (params t : List ℕ) where
   walk_e_end left z h e = walk_e_on left z h ∙ ap (enter_e params t (walk_e params t (left - 1)) z) e
 
   pub walk_e_found : (left : ℕ) (z : Desk) (x : Record) (i : Reader) → 0 < left → read_at t z.read ≡ Some (x, i) → walk_e params t left z
-      ≡ on (own (read_e x)) (times (arity params (read_e x)) (walk_e params t (left - 1)) (desk z.sheet i.at))
+      ≡ on (own (read_e x)) (times (parts_in params (read_e x)) (walk_e params t (left - 1)) (desk z.sheet i.at))
   unfolding enter_e
   walk_e_found left z x i h e = walk_e_on left z h ∙ ap (enter_e params t (walk_e params t (left - 1)) z) e
 

@@ -1,11 +1,12 @@
 -- The walk over a script table that writes its translation, record by record: what the code does to any words, whether they are a table or not.
 -- A part is entered where the reader stands, and left with the reader past it. Assumes nothing: these are definitions.
-use Rattle.std.specs.Prelude.{ℕ, zero, suc, cond, List, get_or, eqb}
+use Rattle.std.specs.Prelude.{ℕ, zero, suc, cond, List, eqb}
 use Rattle.word.specs.Value.{TRUE, FALSE}
 use Rattle.word.specs.Reader.{read_at}
 use Rattle.word.specs.Reader.{Read}
 use Rattle.std.specs.Prelude.{Some, None}
 use Rattle.script.specs.Table.{HeadE, NUM, TRUE as YES, FALSE as NO, VAR, GET, LNOT, BNOT, BIN, CALL, HeadS, SKIP, SEQ, DEF, SET, PUT, FOR, IF, RETURN, read_e, read_s}
+use Rattle.script.specs.Shape.{parts_in}
 use Rattle.tape.specs.Instruction.{lit, var, get, not, bin, call, def, for, end}
 use Rattle.translation.specs.Translate.{Layout}
 use Rattle.emitting.specs.Emitting.{Sheet, sheet, puts, masks, assigns, stores, gives, flips}
@@ -38,18 +39,6 @@ looping f x q r z = on (puts end) (f (on (puts (for x q r)) z))
 unfoldable pub lowered_code : ℕ → ℕ
 lowered_code o = cond (eqb o 14) 6 (cond (eqb o 15) 7 o)
 
--- how many expressions follow, where function f has get_or params f 0 parameters
-unfoldable pub arity : List ℕ → HeadE → ℕ
-arity params (NUM v) = 0
-arity params YES = 0
-arity params NO = 0
-arity params (VAR x) = 0
-arity params (GET a) = 1
-arity params LNOT = 1
-arity params BNOT = 1
-arity params (BIN o) = 2
-arity params (CALL f) = get_or params f 0
-
 -- the expression's own record, behind its parts
 unfoldable pub own : HeadE → Sheet → Sheet
 own (NUM v) s = puts (lit v) s
@@ -64,7 +53,7 @@ own (CALL f) s = puts (call f) s
 
 module _ (params t : List ℕ) where
   unfoldable pub enter_e : (Desk → Desk) → Desk → Read → Desk
-  enter_e f z (Some (x, i)) = on (own (read_e x)) (times (arity params (read_e x)) f (desk z.sheet i.at))
+  enter_e f z (Some (x, i)) = on (own (read_e x)) (times (parts_in params (read_e x)) f (desk z.sheet i.at))
   enter_e f z None = z
 
   -- `left` is the depth that is left, this one counted

@@ -1,13 +1,14 @@
 // Expressions, read in prefix order and written in postfix order: the parts first, then the record's own.
-#![tactic(auto, using(std::proofs::lemmas::Bool::Decides::nat_tests), unfolding(script::specs::Table::read_e, tape::specs::Named::named, crate::specs::Walking::lowered_code, crate::specs::Walking::arity, crate::specs::Walking::own))]
+#![tactic(auto, using(std::proofs::lemmas::Bool::Decides::nat_tests), unfolding(script::specs::Table::read_e, tape::specs::Named::named, crate::specs::Walking::lowered_code, crate::specs::Walking::own))]
 
 ghost use Rattle.std.specs.Prelude.{◌≡◌};
 ghost use Rattle.script.specs.Table.{read_e};
 ghost use Rattle.tape.specs.Named.{named};
 ghost use Rattle.emitting.specs.Emitting.{puts};
-ghost use Rattle.emitting.specs.Walking.{on, desk_of, lowered_code, arity, own, walk_e};
+ghost use Rattle.emitting.specs.Walking.{on, desk_of, lowered_code, own, walk_e};
 
 use crate::walk::{Source, Walk};
+use script::shape::parts_in;
 use tape::instruction::Instruction;
 use word::Record;
 use word::operators::{FALSE, TRUE};
@@ -20,19 +21,6 @@ fn lowered(code: u32) -> u32
         14 => 6,
         15 => 7,
         _ => code,
-    }
-}
-
-// How many expressions follow a record.
-fn arity(x: Record, params: &[u32]) -> u32
-    ensures { result ≡ arity params.now (read_e x) }
-{
-    let kind = x.kind;
-    match kind {
-        20..=23 => 0,
-        24..=26 => 1,
-        27 => 2,
-        _ => params.get(x.p as usize).copied().unwrap_or(0),
     }
 }
 
@@ -65,7 +53,7 @@ pub fn expression(source: Source, out: &mut [u32], from: Walk, left: u32) -> Wal
     let Some((x, next)) = from.reader.next(source.table) else {
         return from;
     };
-    let parts = arity(x, source.params);
+    let parts = parts_in(x, source.params);
     let mut here = from.reading(next);
     for i in 0..parts {
         here = expression(source, out, here, left - 1);

@@ -12,7 +12,8 @@ use Rattle.script.specs.Tree.{Expr, more, call, Stmt, seq, next}
 use Rattle.script.specs.Table.{HeadE, NUM, TRUE, FALSE, VAR, GET, LNOT, BNOT, BIN, CALL, HeadS, SKIP, SEQ, DEF, SET, PUT, FOR, IF, RETURN, read_e, read_s, expression, statement, Lead, lead_by}
 use Rattle.script.specs.Parse.{Parsed, parsed, refused, and_then, parts, build_e, enter_e, too_deep, parse_e, whole, Nest, nests, inside, sequence, build_s, enter_if, enter_s, parse_s}
 use Rattle.script.specs.declared.Env.{Env}
-use Rattle.reading.specs.Structure.{due_of, leads, parts_in, expressions_in, statements_in, walk_of}
+use Rattle.script.specs.Shape.{parts_in, expressions_in, statements_in}
+use Rattle.reading.specs.Structure.{due_of, leads, walk_of}
 use Rattle.reading.proofs.Tested.{lead_is}
 
 abbrev pub Walk : Type 0

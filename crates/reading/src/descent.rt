@@ -5,10 +5,9 @@ ghost use Rattle.script.specs.Table.{read_s};
 ghost use Rattle.script.specs.Parse.{parts, parse_e, nests, inside, sequence, parse_s};
 ghost use Rattle.reading.specs.Structure.{nested, walk_of};
 
-use crate::leads::{
-    due, expression_leads, expressions_in, parts_in, statement_leads, statements_in,
-};
+use crate::leads::{due, expression_leads, statement_leads};
 use script::Env;
+use script::shape::{expressions_in, parts_in, statements_in};
 use word::reader::Reader;
 use word::{Record, Refusal};
 

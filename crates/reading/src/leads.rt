@@ -1,13 +1,12 @@
-// One record, tested where one of a class is due: its kind (2), its unused words (4), its fields (5), the lowest number first; and how many
-// parts follow it.
-#![tactic(auto, using(std::proofs::lemmas::Bool::Decides::nat_tests), unfolding(crate::specs::Structure::due_of, crate::specs::Structure::leads, crate::specs::Structure::parts_in, crate::specs::Structure::expressions_in, crate::specs::Structure::statements_in, script::specs::Table::lead_by, script::specs::Table::program, script::specs::Table::array, script::specs::Table::function, script::specs::Table::expression, script::specs::Table::read_e, script::specs::Table::write_e, script::specs::Table::range_e, script::specs::Table::statement, script::specs::Table::read_s, script::specs::Table::write_s, script::specs::Table::range_s, word::specs::Records::same))]
+// One record, tested where one of a class is due: its kind (2), its unused words (4), its fields (5), the lowest number first.
+#![tactic(auto, using(std::proofs::lemmas::Bool::Decides::nat_tests), unfolding(crate::specs::Structure::due_of, crate::specs::Structure::leads, script::specs::Table::lead_by, script::specs::Table::program, script::specs::Table::array, script::specs::Table::function, script::specs::Table::expression, script::specs::Table::read_e, script::specs::Table::write_e, script::specs::Table::range_e, script::specs::Table::statement, script::specs::Table::read_s, script::specs::Table::write_s, script::specs::Table::range_s, word::specs::Records::same))]
 
 ghost use Rattle.std.specs.Prelude.{◌≡◌, cond, ◌≤◌, Ok};
 ghost use Rattle.word.specs.Refusals.{refuse};
 ghost use Rattle.word.specs.Reader.{read_at};
-ghost use Rattle.script.specs.Table.{read_e, read_s, expression, statement, program, array, function, lead_by};
+ghost use Rattle.script.specs.Table.{expression, statement, program, array, function, lead_by};
 ghost use Rattle.script.specs.declared.Env.{Env};
-ghost use Rattle.reading.specs.Structure.{due_of, leads, parts_in, expressions_in, statements_in};
+ghost use Rattle.reading.specs.Structure.{due_of, leads};
 
 use script::Env;
 use word::reader::Reader;
@@ -129,43 +128,5 @@ pub fn statement_leads(x: Record, at: Reader, env: &Env) -> Result<(), Refusal>
     match kind {
         30..=37 => statement_fields(x, at, env),
         _ => not_due(at),
-    }
-}
-
-// How many expressions an expression's record is followed by.
-pub fn parts_in(x: Record, params: &[u32; 16]) -> u32
-    ensures { result ≡ parts_in params.now (read_e x) }
-{
-    let kind = x.kind;
-    match kind {
-        20..=23 => 0,
-        24..=26 => 1,
-        27 => 2,
-        _ => params.get(x.p as usize).copied().unwrap_or(0),
-    }
-}
-
-// A statement's record is followed by so many expressions,
-pub fn expressions_in(x: Record) -> u32
-    ensures { result ≡ expressions_in (read_s x) }
-{
-    let kind = x.kind;
-    match kind {
-        30 | 31 | 35 => 0,
-        34 => 2,
-        _ => 1,
-    }
-}
-
-// and then by so many statements.
-pub fn statements_in(x: Record) -> u32
-    ensures { result ≡ statements_in (read_s x) }
-{
-    let kind = x.kind;
-    match kind {
-        31 => x.p,
-        35 => 1,
-        36 => 2,
-        _ => 0,
     }
 }

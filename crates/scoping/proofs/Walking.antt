@@ -1,17 +1,25 @@
 -- The walks over statements and over functions, turn by turn, as the code takes them. Assumes nothing.
 use Prim.Native.Nat.{ℕ, zero, suc, ◌+◌, ◌-◌, ◌<◌, ◌≤◌}
 use native.Mathlib.Omega.{arith}
-use mathlib.Core.Path.{◌≡◌, refl, ap, ◌∙◌}
+use mathlib.Core.Path.{◌≡◌, refl, sym, ap, ◌∙◌}
 use mathlib.Core.List.{List}
 use Rattle.word.specs.Reader.{read_at}
 use Rattle.word.specs.declared.Record.{Record}
 use Rattle.word.specs.declared.Refusal.{Refusal}
 use Rattle.word.specs.declared.reader.Reader.{Reader}
+use Rattle.std.proofs.lemmas.Bool.Decides.{nat_tests}
 use Rattle.std.specs.Prelude.{Ok, Err, Some, None}
 use Rattle.word.specs.Refusals.{OrRefused, refuse, ◌>>=◌}
 use Rattle.script.specs.Stage.{clean, Walked, goes, stops, onward}
 use Rattle.script.specs.Stage.{First}
+use Rattle.script.specs.Table.{read_s}
+use Rattle.script.specs.Shape.{statements_in}
 use Rattle.scoping.specs.Passes.{At, come, answered, statements_of, Turn, closing, nested, enter_by, walk, Over, then_first, func_at, funcs_from}
+
+-- how many statements a record is followed by
+pub statements_are : (x : Record) → statements_in (read_s x) ≡ statements_of x
+unfolding statements_in read_s statements_of
+statements_are x = grind (arith, nat_tests)
 
 module _ {A : Type 0} (T : Turn A) (t : List ℕ) (at : ℕ) (a : A) where
   pub walk_deep : (left : ℕ) → left ≡ 0 → answered (walk T t left at a) ≡ Ok (record { at = at }, a)
@@ -69,9 +77,10 @@ pub turns_stop : {A : Type 0} (f : ℕ → A → Answer A) (leave : A → A) (n 
 turns_stop f leave n k s r h e = turns_more f leave n k s h ∙ rw e refl
 
 pub walk_parts : {A : Type 0} (T : Turn A) (t : List ℕ) (at : ℕ) (a : A) (left : ℕ) (x : Record) (m : Reader) → 0 < left → read_at t at ≡ Some (x, m)
-    → answered (walk T t left at a) ≡ (answered (T.enter a at x) >>= turns (λ i b. answered (walk T t (left - 1) i b)) (T.leave x.kind a) (statements_of x))
+    → answered (walk T t left at a) ≡ (answered (T.enter a at x) >>= turns (λ i b. answered (walk T t (left - 1) i b)) (T.leave x.kind a) (statements_in (read_s x)))
 walk_parts T t at a left x m some e =
     ap answered (walk_found T t at a left x m some e) ∙ nested_turns (walk T t (left - 1)) (T.leave x.kind a) (statements_of x) (T.enter a at x)
+    ∙ ap (λ (n : ℕ). answered (T.enter a at x) >>= turns (λ i b. answered (walk T t (left - 1) i b)) (T.leave x.kind a) n) (sym (statements_are x))
 
 -- ---- the functions, in the code's turns
 module _ {M : Type 0} (O : Over M) (t : List ℕ) (at : ℕ) (m : M) (n k : ℕ) where

@@ -35,7 +35,7 @@ unfoldable pub params_of : List ℕ → ℕ → ℕ
 params_of params f = cond (ltb f 16) (get_or params f 0) 0
 
 unfoldable pub noted : List ℕ → ℕ → ℕ → List ℕ
-noted params f n = cond (ltb f 16) (set params f n) params
+noted params f n = set params f n
 
 -- how many expressions: an expression's, and a statement's
 unfoldable pub arity_of : List ℕ → Record → ℕ

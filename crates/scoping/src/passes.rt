@@ -1,13 +1,11 @@
-// What the later stages share: where the functions begin, how many parts a record has, how many parameters each function has, the first of two
-// faults, and an operator's type. Assumes nothing of the records.
-#![tactic(auto, using(std::proofs::lemmas::Bool::Decides::nat_tests), unfolding(script::specs::Stage::or_else, crate::specs::Passes::heading, crate::specs::Passes::heading_of, crate::specs::Passes::noted, crate::specs::Passes::statements_of, crate::specs::Passes::expressions_of, crate::specs::Passes::arity_of, crate::specs::Passes::params_of))]
+// What the later stages share: where the functions begin, how many parts a record has, how many parameters each function has. Assumes nothing of the records.
+#![tactic(auto, using(std::proofs::lemmas::Bool::Decides::nat_tests), unfolding(crate::specs::Passes::heading, crate::specs::Passes::heading_of, crate::specs::Passes::noted, crate::specs::Passes::expressions_of, crate::specs::Passes::arity_of, crate::specs::Passes::params_of))]
 
 ghost use Rattle.std.specs.Prelude.{◌≡◌};
-ghost use Rattle.script.specs.Stage.{or_else};
-ghost use Rattle.scoping.specs.Passes.{heading, noted, statements_of, expressions_of, arity_of};
+ghost use Rattle.scoping.specs.Passes.{heading, noted, expressions_of, arity_of};
 
 use word::reader::Reader;
-use word::{Record, Refusal};
+use word::Record;
 
 // What PROGRAM says: how many functions there are, and where the first one begins, after the arrays.
 #[derive(Clone, Copy)]
@@ -31,19 +29,6 @@ pub fn program(table: &[u32]) -> Heading
             functions: 0,
             first: Reader { at: 0 },
         },
-    }
-}
-
-// How many statements: SEQ says how many it has.
-pub fn statements(x: Record) -> u32
-    ensures { result ≡ statements_of x }
-{
-    let kind = x.kind;
-    match kind {
-        31 => x.p,
-        35 => 1,
-        36 => 2,
-        _ => 0,
     }
 }
 
@@ -71,18 +56,11 @@ pub fn arity(params: &[u32; 16], x: Record) -> u32
     }
 }
 
-// The function with this number has so many parameters; there are 16 functions at most.
-pub fn note(params: &mut [u32; 16], func: usize, count: u32)
-    ensures { params.new ≡ noted params.old func count }
+// A row says v of function f from now on, if it has a place for it.
+pub fn note(row: &mut [u32], f: usize, v: u32)
+    ensures { row.new ≡ noted row.old f v }
 {
-    if func < 16 {
-        params[func] = count;
+    if f < row.len() {
+        row[f] = v;
     }
-}
-
-// The first of two faults.
-pub fn or_else(a: Result<(), Refusal>, b: Result<(), Refusal>) -> Result<(), Refusal>
-    ensures { result ≡ or_else a b }
-{
-    a.and(b)
 }

@@ -5,7 +5,7 @@ ghost use Rattle.script.specs.Stage.{Walked};
 ghost use Rattle.word.specs.declared.Record.{Record};
 ghost use Rattle.scoping.specs.Passes.{At, turn, walk, answered};
 
-use crate::passes::statements;
+use script::shape::statements_in;
 use word::reader::Reader;
 use word::{Record, Refusal};
 
@@ -53,7 +53,7 @@ pub fn statement<S: Stage>(
         return Ok((start, state));
     };
     let (mut at, mut inside) = stage.enter(table, start, x, next, state)?;
-    let parts = statements(x);
+    let parts = statements_in(x);
     for part in 0..parts {
         let (past, after) = statement(stage, table, at, left - 1, inside)?;
         at = past;

@@ -2,6 +2,8 @@
 // the crates reading and stages.
 #![tactic(auto)]
 
+pub mod shape;
+
 // What a record's fields are tested against: how many slots and arrays there are, which function this is, and how many parameters each
 // lower one has (0 for the others).
 #[derive(Clone, Copy, Debug, PartialEq, Eq)]

@@ -167,15 +167,14 @@ record Knows (v : Env) (m : Known) : Type 0 where
   params_are : v.params ≡ m.params
   sized : length m.params ≡ 16
 
-noted_by : (params : List ℕ) (f n : ℕ) (b : Bool) → length params ≡ 16 → ltb f 16 ≡ b → noted params f n ≡ write params f n
+noted_is : (params : List ℕ) (f n : ℕ) → noted params f n ≡ write params f n
 unfolding noted
-noted_by params f n true e h = rw h refl
-noted_by params f n false e h = rw h (sym (set_out params f n (omega (arith, ltb-false f 16 h))))
+noted_is params f n = refl
 
 knows_on : (t : List ℕ) (v : Env) (m : Known) (f : Func) → Knows v m → Knows (passed v (head_of f)) ((typed_func t).note m (rec 3 f.params f.slots 0))
 unfolding passed typed_func
 knows_on t v m f k =
-    let is = noted_by m.params m.func f.params (ltb m.func 16) k.sized refl in
+    let is = noted_is m.params m.func f.params in
     record {
       func_is = ap suc k.func_is ∙ sym (add-one m.func);
       params_are = rw (k.func_is, k.params_are) (sym is);

@@ -13,5 +13,5 @@ pub returns-in_err-past : goal.returns-in_err-past
 returns-in_err-past g t c =
     let (y, is, same) = err_from_is_err_and c.from_residual-in_err-past.result c.from_residual-in_err-past.ensures.1 in
     let whole = walk_parts (turn (g.S.Stage.enters c.args.stage.now c.args.table.now) g.S.Stage.closes) c.args.table.now _ c.args.state c.args.left _ _ (omega arith) (sym c.next.ensures ∙ c.in-Some.is) in
-    let more = turns_more (λ i b. answered (walk (turn (g.S.Stage.enters c.args.stage.now c.args.table.now) g.S.Stage.closes) c.args.table.now (c.args.left - 1) i b)) (g.S.Stage.closes c.in-Some.x.kind c.args.state) c.statements-parts.result c.loop-part.part (c.loop-part.at, c.loop-part.inside) c.loop-part-test.true in
+    let more = turns_more (λ i b. answered (walk (turn (g.S.Stage.enters c.args.stage.now c.args.table.now) g.S.Stage.closes) c.args.table.now (c.args.left - 1) i b)) (g.S.Stage.closes c.in-Some.x.kind c.args.state) c.statements_in-parts.result c.loop-part.part (c.loop-part.at, c.loop-part.inside) c.loop-part-test.true in
     grind arith

@@ -51,6 +51,6 @@ impl Emitter {
     pub fn put(self, out: &mut [u32], i: Instruction) -> Self
         ensures { sheet out.new result ≡ puts (named i) (sheet out.old self) }
     {
-        self.copy(out, i.record())
+        self.copy(out, i.into())
     }
 }

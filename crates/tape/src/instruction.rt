@@ -32,12 +32,12 @@ fn words(kind: u32, p: u32, q: u32, r: u32) -> Record
     Record { kind, p, q, r }
 }
 
-impl Instruction {
+impl From<Instruction> for Record {
+    ghost from_gives = { λ i x. x ≡ write (named i) };
+
     #[tactic(auto, unfolding(crate::specs::Instruction::write, crate::specs::Named::named))]
-    pub fn record(self) -> Record
-        ensures { result ≡ write (named self) }
-    {
-        match self {
+    fn from(i: Instruction) -> Record {
+        match i {
             CFunc { params, slots } => words(3, params, slots, 0),
             Lit(value) => words(10, value, 0, 0),
             Var(slot) => words(11, slot, 0, 0),

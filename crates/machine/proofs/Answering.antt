@@ -28,7 +28,7 @@ use Rattle.machine.proofs.KeepsValues.{Running}
 use Rattle.machine.proofs.KeepsEnds.{Innermost, innermost}
 use Rattle.machine.proofs.Keeps.{body_kind, looping, ready}
 use Rattle.machine.proofs.Going.{Along, rests, quiet_is}
-use Rattle.std.specs.Prelude.{Ok, Err}
+use Rattle.std.specs.Prelude.{Ok}
 
 -- a record that counts, and begins no further pass, counts where it stands
 here_by : (b : Bool) (all : ℕ) (c : Code) → place_by all (turn_for b) c ≡ all - length c

@@ -1,10 +1,8 @@
 -- The laws that other crates cite, and what the functions' proofs share.
 pub mod Computes
-mod Storing
-mod Idle
 mod Passing
 mod Copying
-mod Counting
+mod Rows
 mod Piled
 mod Relation
 mod Moving

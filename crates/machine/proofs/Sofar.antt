@@ -4,11 +4,11 @@ use mathlib.Core.Bool.{true, false}
 use mathlib.Core.List.{List}
 use Prim.Native.Nat.{ℕ, ◌<◌, ◌^◌}
 use lib.ListN.{length}
+use Rattle.std.specs.Prelude.{Ok}
 use Rattle.word.specs.Records.{records, record_at}
 use Rattle.tape.specs.Instruction.{code_of, read, end}
 use Rattle.tape.proofs.Places.{Passed}
 use Rattle.machine.specs.Run.{Result, after, result_of}
-use Rattle.std.specs.Prelude.{Ok}
 use Rattle.machine.specs.Flat.{Flat, flat_by, goes_on, answer_at, Ready, Looping, Ending, Entered}
 use Rattle.machine.proofs.Tables.{checked, stored}
 use Rattle.machine.proofs.Going.{Along, work_left, goes, along_next}

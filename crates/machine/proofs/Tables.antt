@@ -3,7 +3,7 @@ use mathlib.Core.Path.{◌≡◌, refl, sym, ap, ◌∙◌}
 use mathlib.Core.Bool.{Bool, true, false, false≢true}
 use mathlib.Core.List.{List, [], ◌∷◌}
 use mathlib.Core.Logic.{⊎_elim}
-use Prim.Native.Nat.{ℕ, zero, suc, ◌+◌, ◌*◌, ◌≤◌, ◌<◌}
+use Prim.Native.Nat.{ℕ, zero, suc, ◌+◌, ◌*◌, ◌^◌, ◌≤◌, ◌<◌}
 use native.Mathlib.Numerals.{add-one}
 use native.Mathlib.Nat.{eq-or-lt_of_le, le_of_suc-le-suc}
 use native.Mathlib.Omega.{arith}
@@ -16,18 +16,16 @@ use Rattle.word.specs.declared.Record.{Record}
 use Rattle.word.specs.Bytes.{base, total}
 use Rattle.tape.specs.Instruction.{Instruction, Code, cfunc, read, code_of}
 use Rattle.tape.specs.Entries.{Declares, length_of, params_of, nothing, declares, entries_of}
-use Rattle.tape.specs.Check.{check}
-use Rattle.tape.specs.Check.{Checked}
+use Rattle.tape.specs.Check.{check, Checked}
 use Rattle.tape.proofs.Places.{Passed, passed}
 use Rattle.tape.proofs.Cases.{by_kind, read_cfunc}
 use Rattle.tape.proofs.Reading.{code_from, code_length}
 use Rattle.tape.proofs.Declaring.{one_function, functions_before, functions_next, entries_all}
 use Rattle.tape.proofs.Entered.{StandsAt}
 use Rattle.tape.proofs.Positions.{code_there, before}
-use Rattle.tape.proofs.Declared.{exposed_there, array_at, array_small, arrays_all, arrays_few}
+use Rattle.tape.proofs.Declared.{exposed_there, one_at_least, array_at, array_small, arrays_all, arrays_few}
 use Rattle.machine.specs.Flat.{sizes, with_place, places_of, is_accepted, Stored}
 use Rattle.std.specs.Prelude.{Ok, Err}
-use Rattle.word.specs.Refusals.{refuse}
 
 -- ---- functions
 place_by_lem : (d : Declares) (at : ℕ) (places : List ℕ) (k : ℕ) → get_or (with_place d at places) (one_function d k) 0 ≡ get_or places k 0
@@ -119,13 +117,30 @@ laid_start t = record { few = omega arith; sum_is = first (sizes t); small = ome
     first [] = refl
     first (n ∷ lengths) = refl
 
-module _ (t : List ℕ) (m : ℕ) (a : Passed t m) where
+pub some_record : (t : List ℕ) → is_accepted (check t) ≡ true → 0 < records t
+some_record t ok = let c = checked t ok in one_at_least t c.0 c.1
+
+module _ {t : List ℕ} (ok : is_accepted (check t) ≡ true) where
+  -- array n's record, and room for where the array after it begins
+  pub laid_room : {starts : List ℕ} {sum n : ℕ} → n < (record_at t 0).q → Laid t starts sum n
+      → (n < 8) × (n + 1 < records t) × (sum + (record_at t (n + 1)).p < 2 ^ 32)
+  laid_room {n = n} h l =
+      let c = checked t ok in
+      let q = arrays_all t c.0 c.1 in
+      let k = arrays_few t c.0 c.1 in
+      let p = (array_at t c.0 c.1 n h).0 in
+      let z = ap (λ (j : ℕ). (record_at t j).p) (add-one n) in
+      let e = array_small t c.0 c.1 n h in
+      let s = l.small in
+      (omega arith, omega arith, omega arith)
+
   pub laid_next : {starts : List ℕ} {sum n : ℕ} → n < (record_at t 0).q → Laid t starts sum n → Laid t (put_at starts n sum) (sum + (record_at t (n + 1)).p) (n + 1)
   laid_next {starts} {sum} {n} h l =
-      let q = arrays_all t m a in
-      let p = array_at t m a n h in
-      let small = array_small t m a n h in
-      let k = arrays_few t m a in
+      let c = checked t ok in
+      let q = arrays_all t c.0 c.1 in
+      let p = array_at t c.0 c.1 n h in
+      let small = array_small t c.0 c.1 n h in
+      let k = arrays_few t c.0 c.1 in
       let i = l.sum_is in
       let r = l.room in
       let s = l.small in
@@ -140,9 +155,16 @@ module _ (t : List ℕ) (m : ℕ) (a : Passed t m) where
             (eq-or-lt_of_le (le_of_suc-le-suc u));
       })
 
-  pub laid_end : {starts : List ℕ} {sum n : ℕ} → n ≡ length (sizes t) → Laid t starts sum n → sum ≡ total (sizes t)
-  laid_end {n = n} e l = l.sum_is ∙ ap (base (sizes t)) e ∙ total_is (sizes t)
+  pub laid_end : {starts : List ℕ} {sum n : ℕ} → (record_at t 0).q ≤ n → Laid t starts sum n
+      → (sum ≡ total (sizes t)) × ((j : ℕ) → j < length (sizes t) → get_or starts j 0 ≡ base (sizes t) j)
+  laid_end {n = n} h l =
+      let c = checked t ok in
+      let q = arrays_all t c.0 c.1 in
+      let f = l.few in
+      let e : n ≡ length (sizes t) = omega arith in
+      (l.sum_is ∙ ap (base (sizes t)) e ∙ total_is (sizes t), λ j k. l.done j (omega arith))
 
+module _ (t : List ℕ) (m : ℕ) (a : Passed t m) where
   -- each is at most 4096 long
   base_small : (n : ℕ) → n ≤ length (sizes t) → base (sizes t) n ≤ n * 4096
   base_small zero h = base_zero (sizes t)
@@ -216,7 +238,7 @@ no_function x k h =
       on_other = refl;
     })
 
-module _ (t : List ℕ) (m : ℕ) (a : Passed t m) {places : List ℕ} {count at : ℕ} (h : at < records t) (p : Found t places count at) where
+module _ {t : List ℕ} (ok : is_accepted (check t) ≡ true) {places : List ℕ} {count at : ℕ} (h : at < records t) (p : Found t places count at) where
   pub found_other : ((record_at t at).kind ≡ 3 → ⊥) → Found t places count (at + 1)
   found_other k =
       rw (add-one at)
@@ -233,7 +255,8 @@ module _ (t : List ℕ) (m : ℕ) (a : Passed t m) {places : List ℕ} {count at
 
   pub found_room : (record_at t at).kind ≡ 3 → count < 16
   found_room k =
-      let x = exposed_there t m a in
+      let c = checked t ok in
+      let x = exposed_there t c.0 c.1 in
       let l = before_all at (code_of t) (function_here k) in
       let e = entries_all (code_of t) in
       omega (arith, p.count_is, x.index_is, x.few)
@@ -257,9 +280,13 @@ module _ (t : List ℕ) (m : ℕ) (a : Passed t m) {places : List ℕ} {count at
         rest = λ f u. get_or-set_other places count f at 0 (λ w. omega arith) ∙ p.rest f (omega arith);
       })
 
-pub found_end : (t places : List ℕ) (count at : ℕ) → records t ≤ at → Found t places count at
+-- the number of a record of a tape that was checked is a word
+pub tape_few : (t : List ℕ) → is_accepted (check t) ≡ true → records t ≤ 131072
+tape_few t ok = (checked t ok).1.few
+
+pub found_end : {t places : List ℕ} {count at : ℕ} → records t ≤ at → Found t places count at
     → (count ≡ length (entries_of (code_of t))) × ((f : ℕ) → get_or places f 0 ≡ get_or (places_of 0 (code_of t)) f 0)
-found_end t places count at h p =
+found_end {t} {places} {count} {at} h p =
     let n = p.on_tape in
     let e : at ≡ length (code_of t) = omega (arith, code_length t) in
     let c = p.count_is ∙ ap (λ (k : ℕ). functions_before k (code_of t)) e in
@@ -269,3 +296,5 @@ found_end t places count at h p =
     all : (f : ℕ) (b : Bool) → ltb f count ≡ b → length (places_of 0 (code_of t)) ≤ count → get_or places f 0 ≡ get_or (places_of 0 (code_of t)) f 0
     all f true q l = p.done f (ltb-true f count q)
     all f false q l = let v = ltb-false f count q in p.rest f v ∙ sym (get_or-eq_default (places_of 0 (code_of t)) 0 (omega arith))
+
+pub ruleset listing = (found_start, found_room, tape_few)

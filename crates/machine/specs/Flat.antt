@@ -1,19 +1,20 @@
 -- The machine's state as the code keeps it: registers, and flat lists that they count into. This is an implementation, proved to stand for the
 -- core rules; the contract of `run` does not speak of it. Assumes nothing: these are definitions.
-use Rattle.std.specs.Prelude.{ℕ, zero, suc, ◌+◌, ◌-◌, ◌≤◌, ◌<◌, ◌^◌, ◌≡◌, List, [], ◌∷◌, Bool, true, false, not as negated, length, get_or, set as put_at, drop, ltb, eqb}
+use Rattle.std.specs.Prelude.{ℕ, zero, suc, ◌+◌, ◌-◌, ◌≤◌, ◌<◌, ◌^◌, ◌≡◌, List, [], ◌∷◌, Bool, true, false, not as negated, length, get_or, set as put_at, drop, map, ltb, eqb, Option, Some, None, Ok, Err}
 use Rattle.word.specs.Value.{op, flip}
 use Rattle.word.specs.Code.{op_of}
 use Rattle.word.specs.Records.{records, record_at}
 use Rattle.word.specs.Bytes.{base as start_of, total, fetch, store}
 use Rattle.tape.specs.Instruction.{Instruction, Code, program, array, cfunc, lit, var, get, not, bin, call, def, set, put, for, end, ret, other, read, code_of}
 use Rattle.tape.specs.Entries.{Declares, length_of, params_of, nothing, declares, lengths_of, entries_of, exposed}
-use Rattle.tape.specs.Check.{check}
-use Rattle.tape.specs.Check.{Checked}
+use Rattle.tape.specs.Check.{check, Checked}
 use Rattle.tape.specs.Rules.{past}
 use Rattle.machine.specs.declared.registers.Registers.{Registers}
+use Rattle.machine.specs.declared.stacks.Loop.{Loop}
+use Rattle.machine.specs.declared.stacks.Frame.{Frame}
+use Rattle.machine.specs.declared.stacks.Stacks.{Stacks}
 use Rattle.machine.specs.declared.Ran.{Ran}
 use Rattle.machine.specs.declared.Ran.TheVariants.{Done, Stopped}
-use Rattle.std.specs.Prelude.{Ok, Err}
 
 -- `fors` and `passes` hold, for each open loop, the record of its FOR and its present number; `backs` and `bases`, for each open call, the record
 -- to go back to and where the caller's slots begin
@@ -29,6 +30,29 @@ pub record Flat : Type 0 where
 
 abbrev pub flat : Registers → List ℕ → List ℕ → List ℕ → List ℕ → List ℕ → List ℕ → List ℕ → Flat
 flat g f p k b o s m = record { regs = g; fors = f; passes = p; backs = k; bases = b; operands = o; slots = s; memory = m }
+
+-- what the arrays of loops and of frames hold, list by list
+abbrev pub fors_of : List Loop → List ℕ
+fors_of loops = map (λ (l : Loop). l.at) loops
+
+abbrev pub passes_of : List Loop → List ℕ
+passes_of loops = map (λ (l : Loop). l.pass) loops
+
+abbrev pub backs_of : List Frame → List ℕ
+backs_of frames = map (λ (f : Frame). f.back) frames
+
+abbrev pub bases_of : List Frame → List ℕ
+bases_of frames = map (λ (f : Frame). f.base) frames
+
+-- how the registers, the lent arrays and the lent memory stand for one; and the arrays with other operands, and with other slots
+abbrev pub flat_of : Registers → Stacks → List ℕ → Flat
+flat_of g s m = flat g (fors_of s.loops) (passes_of s.loops) (backs_of s.frames) (bases_of s.frames) s.operands s.slots m
+
+abbrev pub with_operands : Stacks → List ℕ → Stacks
+with_operands s o = record { loops = s.loops; frames = s.frames; operands = o; slots = s.slots }
+
+abbrev pub with_slots : Stacks → List ℕ → Stacks
+with_slots s v = record { loops = s.loops; frames = s.frames; operands = s.operands; slots = v }
 
 -- on to a record, with so many operands and open loops: for nothing, and as one counted step; and the same into another frame
 unfoldable pub free : Registers → ℕ → ℕ → ℕ → Registers
@@ -81,6 +105,10 @@ loop_pass s = get_or s.passes (s.regs.loops - 1) 0
 
 unfoldable pub pass_left : List ℕ → List ℕ → List ℕ → ℕ → Bool
 pass_left t fors passes loops = ltb (get_or passes (loops - 1) 0 + 1) (record_at t (get_or fors (loops - 1) 0)).r
+
+-- the number of that next pass
+unfoldable pub next_pass : List ℕ → List ℕ → List ℕ → ℕ → Option ℕ
+next_pass t fors passes loops = pick (pass_left t fors passes loops) (Some (get_or passes (loops - 1) 0 + 1)) None
 
 -- the lengths of a tape's arrays
 abbrev pub sizes : List ℕ → List ℕ
@@ -135,6 +163,13 @@ module _ (t funcs : List ℕ) where
   flat_by other s = s
 
 -- ---- the room that each instruction needs: the lists are 128 loops, 16 calls, 2048 operands and 1024 slots long
+-- the next record and the next step can be counted; and there are n operands
+abbrev pub Small : Registers → Type 0
+Small g = (g.at < 2 ^ 32) × (g.steps < 2 ^ 63)
+
+abbrev pub Holds : ℕ → Registers → Type 0
+Holds n g = (n ≤ g.operands) × (g.operands ≤ 2048)
+
 pub record Callable (t funcs : List ℕ) (f : ℕ) (g : Registers) : Type 0 where
   pub listed : f < 16
   pub there : get_or funcs f 0 < records t

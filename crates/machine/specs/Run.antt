@@ -4,8 +4,7 @@ use Rattle.std.specs.Prelude.{ℕ, Bool, true, false, List, [], ◌∷◌, lengt
 use Rattle.word.specs.Slots.{fresh}
 use Rattle.word.specs.Bytes.{total}
 use Rattle.tape.specs.Instruction.{Code, code_of}
-use Rattle.tape.specs.Check.{check}
-use Rattle.tape.specs.Check.{Checked}
+use Rattle.tape.specs.Check.{check, Checked}
 use Rattle.tape.specs.Entries.{lengths_of, entry_at, exposed}
 use Rattle.tape.specs.Rules.{Machine, at, halted, stuck, stands, place}
 use Rattle.machine.specs.declared.Ran.{Ran}

@@ -1,72 +1,57 @@
 // CALL and RET. Each asks for the room that the check has shown to be there.
-ghost use Rattle.std.specs.Prelude.{◌≡◌, ℕ, ◌+◌, ◌-◌, ◌<◌, ◌≤◌, ◌^◌, List, length, get_or, set as put_at};
-ghost use Rattle.word.specs.Records.{records, record_at};
+ghost use Rattle.std.specs.Prelude.{◌≡◌, ℕ, ◌+◌, ◌-◌, ◌<◌, ◌≤◌, ◌^◌, List, length};
 ghost use Rattle.tape.specs.Instruction.{call, ret};
-ghost use Rattle.machine.specs.Flat.{count, frame, flat, flat_by, copied, Callable};
+ghost use Rattle.machine.specs.Flat.{flat_of, flat_by, copied, Small, Callable};
 
+use crate::program::Program;
 use crate::reading::record;
 use crate::registers::Registers;
+use crate::stacks::{Frame, Stacks};
 
 // n values from i on become the slots from j on.
+#[tactic(auto, using(crate::proofs::Copying::copied_at_once))]
 pub(crate) fn copy(values: &[u32], i: usize, slots: &mut [u32; 1024], j: usize, n: usize)
     requires { (i + n ≤ length values.now) × (j + n ≤ 1024) }
     ensures { slots.new ≡ copied n values.now i slots.old j }
 {
-    let mut k = 0;
-    while k < n {
-        slots[j + k] = values[i + k];
-        k += 1;
-    }
+    slots[j..j + n].copy_from_slice(&values[i..i + n]);
 }
 
 // CALL opens a frame above the present one, and its operands become the parameters.
-pub(crate) fn call(
-    tape: &[u32],
-    funcs: &[u32; 16],
-    backs: &mut [usize; 16],
-    bases: &mut [usize; 16],
-    operands: &[u32; 2048],
-    slots: &mut [u32; 1024],
-    g: Registers,
-    f: u32,
-) -> Registers
-    requires { (g.at < 2 ^ 32) × (g.steps < 2 ^ 63) × Callable tape.now funcs.now f g }
-    ensures { (p l m : List ℕ) → flat result p l backs.new bases.new operands.now slots.new m
-        ≡ flat_by tape.now funcs.now (call f) (flat g p l backs.old bases.old operands.now slots.old m) }
+#[tactic(auto, using(crate::proofs::Rows::rows), unfolding(crate::specs::Flat::flat_by))]
+pub(crate) fn call(program: &Program, stacks: &mut Stacks, g: Registers, f: u32) -> Registers
+    requires small { Small g }
+    requires callable { Callable program.now.tape.now program.now.places f g }
+    ensures { (m : List ℕ) → flat_of result stacks.new m
+        ≡ flat_by program.now.tape.now program.now.places (call f) (flat_of g stacks.old m) }
 {
-    let c = funcs[f as usize] as usize;
-    let x = record(tape, c);
+    let c = program.places[f as usize] as usize;
+    let x = record(program.tape, c);
     let n = x.p as usize;
     let i = g.operands - n;
     let d = g.calls;
-    backs[d] = g.at + 1;
-    bases[d] = g.base;
-    copy(operands, i, slots, g.top, n);
+    stacks.frames[d] = Frame {
+        back: g.at + 1,
+        base: g.base,
+    };
+    copy(&stacks.operands, i, &mut stacks.slots, g.top, n);
     g.frame(c + 1, i, g.top, g.top + x.q as usize, d + 1)
 }
 
 // RET leaves the value of its slot among the operands, and the machine off the tape or back in the caller.
-pub(crate) fn finish(
-    tape: &[u32],
-    backs: &[usize; 16],
-    bases: &[usize; 16],
-    operands: &mut [u32; 2048],
-    slots: &[u32; 1024],
-    g: Registers,
-    x: u32,
-) -> Registers
-    requires { (g.steps < 2 ^ 63) × (g.operands < 2048) × (g.base + x < 1024) × (g.calls ≤ 16) }
-    ensures { (funcs p l m : List ℕ) → flat result p l backs.now bases.now operands.new slots.now m
-        ≡ flat_by tape.now funcs (ret x) (flat g p l backs.now bases.now operands.old slots.now m) }
+#[tactic(auto, using(crate::proofs::Rows::rows), unfolding(crate::specs::Flat::flat_by, crate::specs::Flat::pick))]
+pub(crate) fn finish(program: &Program, stacks: &mut Stacks, g: Registers, x: u32) -> Registers
+    requires { Small g × (g.operands < 2048) × (g.base + x < 1024) × (g.calls ≤ 16) }
+    ensures { (m : List ℕ) → flat_of result stacks.new m
+        ≡ flat_by program.now.tape.now program.now.places (ret x) (flat_of g stacks.old m) }
 {
     let n = g.operands;
-    let j = g.base + x as usize;
-    operands[n] = slots[j];
-    let c = g.calls;
-    if c == 0 {
-        g.count(tape.len() / 4, n + 1, g.loops)
+    stacks.operands[n] = stacks.slots[g.base + x as usize];
+    if g.calls == 0 {
+        g.count(program.tape.len() / 4, n + 1, g.loops)
     } else {
-        let d = c - 1;
-        g.frame(backs[d], n + 1, bases[d], g.base, d)
+        let d = g.calls - 1;
+        let f = stacks.frames[d];
+        g.frame(f.back, n + 1, f.base, g.base, d)
     }
 }

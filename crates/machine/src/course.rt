@@ -3,78 +3,65 @@ ghost use Rattle.std.specs.Prelude.{◌≡◌, true, ℕ, ◌+◌, ◌-◌, ◌<
 ghost use Rattle.word.specs.Records.{records, record_at};
 ghost use Rattle.tape.specs.Instruction.{read, end, code_of};
 ghost use Rattle.tape.specs.Check.{check};
-ghost use Rattle.machine.specs.Flat.{is_accepted, Looping, Ending, Entered, goes_on, answer_at};
+ghost use Rattle.machine.specs.Flat.{fors_of, passes_of, is_accepted, Looping, Ending, Entered, goes_on, answer_at};
 ghost use Rattle.machine.specs.Run.{Result, after, result_of, admitted};
 
 use crate::Ran;
 use crate::calls::copy;
-use crate::layout::{lay_out, list_functions};
+use crate::program::Program;
 use crate::reading::record;
 use crate::registers::Registers;
+use crate::stacks::{Frame, Loop, Stacks};
 use crate::step::{is_free, step};
 use word::Refusal;
 
 // Whether the run goes on: it is on the tape, and the limit allows the record at hand or that counts nothing.
-fn going(tape: &[u32], fors: &[u32; 128], passes: &[u32; 128], g: Registers, most: u64) -> bool
-    requires { g.at < records tape.now → read (record_at tape.now g.at) ≡ end → Looping tape.now fors.now g }
-    ensures { result ≡ goes_on tape.now fors.now passes.now g most }
+#[tactic(auto, using(std::proofs::lemmas::Bool::Decides::nat_tests), unfolding(crate::specs::Flat::goes_on, crate::specs::Flat::pick))]
+fn going(tape: &[u32], stacks: &Stacks, g: Registers, most: u64) -> bool
+    requires { g.at < records tape.now → read (record_at tape.now g.at) ≡ end → Looping tape.now (fors_of stacks.now.loops) g }
+    ensures { result ≡ goes_on tape.now (fors_of stacks.now.loops) (passes_of stacks.now.loops) g most }
 {
-    if g.at < tape.len() / 4 {
-        if g.steps < most {
-            true
-        } else {
-            is_free(tape, fors, passes, g)
-        }
-    } else {
-        false
-    }
+    g.at < tape.len() / 4 && (g.steps < most || is_free(tape, stacks, g))
 }
 
 // The answer where the run has stopped. A further pass of a loop counts at its FOR.
-fn answer(tape: &[u32], fors: &[u32; 128], operands: &[u32; 2048], g: Registers) -> Ran
-    requires { Ending tape.now fors.now g }
-    ensures { result ≡ answer_at tape.now fors.now operands.now g }
+#[tactic(auto, using(crate::proofs::Rows::rows), unfolding(crate::specs::Flat::answer_at, crate::specs::Flat::pick))]
+fn answer(tape: &[u32], stacks: &Stacks, g: Registers) -> Ran
+    requires { Ending tape.now (fors_of stacks.now.loops) g }
+    ensures { result ≡ answer_at tape.now (fors_of stacks.now.loops) stacks.now.operands g }
 {
     let steps = g.steps as u32;
     if g.at < tape.len() / 4 {
-        let mut record = g.at;
-        if tape[record * 4] == 20 {
-            let d = g.loops - 1;
-            record = fors[d] as usize;
-        }
+        let record = if tape[g.at * 4] == 20 {
+            stacks.loops[g.loops - 1].at as usize
+        } else {
+            g.at
+        };
         Ran::Stopped { steps, record }
     } else {
         Ran::Done {
-            value: operands[g.operands - 1],
+            value: stacks.operands[g.operands - 1],
             steps,
         }
     }
 }
 
-// The run, from inside the exposed function, whose CFUNC is the record `first`.
-fn execute(
-    tape: &[u32],
-    starts: &[u32; 8],
-    funcs: &[u32; 16],
-    first: usize,
-    arguments: &[u32],
-    memory: &mut [u8],
-    limit: u32,
-) -> Ran
-    requires { Entered tape.now starts.now funcs.now first (length arguments.now) (length memory.old) }
+// The run, from inside the exposed function.
+fn execute(program: &Program, arguments: &[u32], memory: &mut [u8], limit: u32) -> Ran
+    requires { Entered program.now.tape.now program.now.starts program.now.places program.now.first (length arguments.now) (length memory.old) }
     ensures { record { answer = Ok result; memory = memory.new }
-        ≡ result_of (code_of tape.now) (after (code_of tape.now) arguments.now memory.old limit) }
+        ≡ result_of (code_of program.now.tape.now) (after (code_of program.now.tape.now) arguments.now memory.old limit) }
 {
-    let head = record(tape, first);
-    let mut fors = [0u32; 128];
-    let mut passes = [0u32; 128];
-    let mut backs = [0usize; 16];
-    let mut bases = [0usize; 16];
-    let mut operands = [0u32; 2048];
-    let mut slots = [0u32; 1024];
-    copy(arguments, 0, &mut slots, 0, arguments.len());
+    let head = record(program.tape, program.first);
+    let mut stacks = Stacks {
+        slots: [0; 1024],
+        frames: [Frame { back: 0, base: 0 }; 16],
+        loops: [Loop { at: 0, pass: 0 }; 128],
+        operands: [0; 2048],
+    };
+    copy(arguments, 0, &mut stacks.slots, 0, arguments.len());
     let mut g = Registers {
-        at: first + 1,
+        at: program.first + 1,
         operands: 0,
         loops: 0,
         base: 0,
@@ -83,25 +70,14 @@ fn execute(
         steps: 0,
     };
     let most = limit as u64;
-    while going(tape, &fors, &passes, g, most) {
-        g = step(
-            tape,
-            starts,
-            funcs,
-            &mut fors,
-            &mut passes,
-            &mut backs,
-            &mut bases,
-            &mut operands,
-            &mut slots,
-            memory,
-            g,
-        );
+    while going(program.tape, &stacks, g, most) {
+        g = step(program, &mut stacks, memory, g);
     }
-    answer(tape, &fors, &operands, g)
+    answer(program.tape, &stacks, g)
 }
 
 // 31 and 32, else the run.
+#[tactic(auto, using(std::proofs::lemmas::Bool::Decides::nat_tests, crate::proofs::Admitting::first_there, crate::proofs::Admitting::first_params), unfolding(crate::specs::Run::admitted, crate::specs::Run::unless))]
 pub(crate) fn admit(
     tape: &[u32],
     arguments: &[u32],
@@ -112,29 +88,18 @@ pub(crate) fn admit(
     ensures { record { answer = result; memory = memory.new }
         ≡ admitted (code_of tape.now) arguments.now memory.old limit }
 {
-    let arrays = lay_out(tape);
-    let functions = list_functions(tape);
-    let first = functions.places[functions.count - 1] as usize;
-    let head = record(tape, first);
-    if arguments.len() != head.p as usize {
+    let program = Program::new(tape);
+    if arguments.len() != record(tape, program.first).p as usize {
         return Err(Refusal {
             number: 31,
             place: 0,
         });
     }
-    if memory.len() != arrays.total as usize {
+    if memory.len() != program.bytes as usize {
         return Err(Refusal {
             number: 32,
             place: 0,
         });
     }
-    Ok(execute(
-        tape,
-        &arrays.starts,
-        &functions.places,
-        first,
-        arguments,
-        memory,
-        limit,
-    ))
+    Ok(execute(&program, arguments, memory, limit))
 }

@@ -3,10 +3,11 @@
 
 mod calls;
 mod course;
-mod layout;
 mod loops;
+mod program;
 mod reading;
 mod registers;
+mod stacks;
 mod step;
 mod values;
 
@@ -26,6 +27,7 @@ pub enum Ran {
 
 // Checks the tape (21 to 30), admits the run (31, 32) and runs it: the answer and the bytes at exit are those of the core rules. A refusal leaves every byte
 // as it was.
+#[tactic(auto, unfolding(crate::specs::Run::run, crate::specs::Run::run_by, crate::specs::Flat::is_accepted))]
 pub fn run(tape: &[u32], arguments: &[u32], memory: &mut [u8], limit: u32) -> Result<Ran, Refusal>
     ensures { record { answer = result; memory = memory.new }
         ≡ run tape.now arguments.now memory.old limit }

@@ -5,7 +5,7 @@ ghost use Rattle.machine.specs.Flat.{free, count, frame};
 // The present record; how many operands and open loops there are; where the present function's slots begin and end; how many calls are
 // open; and the steps counted.
 #[derive(Clone, Copy)]
-pub struct Registers {
+pub(crate) struct Registers {
     pub at: usize,
     pub operands: usize,
     pub loops: usize,
@@ -17,21 +17,20 @@ pub struct Registers {
 
 impl Registers {
     // On to a record, for nothing.
-    pub fn free(self, at: usize, operands: usize, loops: usize) -> Registers
+    #[tactic(auto, unfolding(crate::specs::Flat::free))]
+    pub(crate) fn free(self, at: usize, operands: usize, loops: usize) -> Registers
         ensures { result ≡ free self at operands loops }
     {
         Registers {
             at,
             operands,
             loops,
-            base: self.base,
-            top: self.top,
-            calls: self.calls,
-            steps: self.steps,
+            ..self
         }
     }
 
     // On to a record, as one counted step.
+    #[tactic(auto, unfolding(crate::specs::Flat::count))]
     pub(crate) fn count(self, at: usize, operands: usize, loops: usize) -> Registers
         requires { self.steps < 2 ^ 63 }
         ensures { result ≡ count self at operands loops }
@@ -40,14 +39,13 @@ impl Registers {
             at,
             operands,
             loops,
-            base: self.base,
-            top: self.top,
-            calls: self.calls,
             steps: self.steps + 1,
+            ..self
         }
     }
 
     // The same into another frame.
+    #[tactic(auto, unfolding(crate::specs::Flat::frame))]
     pub(crate) fn frame(
         self,
         at: usize,
@@ -62,11 +60,11 @@ impl Registers {
         Registers {
             at,
             operands,
-            loops: self.loops,
             base,
             top,
             calls,
             steps: self.steps + 1,
+            ..self
         }
     }
 }

@@ -2,13 +2,13 @@
 -- where the whole limit leads from the start. The measure is what is left to do. Assumes nothing.
 use Rattle.machine.proofs.Sofar.{Sofar}
 use Rattle.machine.proofs.Going.{work_left}
-use Rattle.machine.specs.Flat.{flat}
+use Rattle.machine.specs.Flat.{flat_of}
 use Rattle.machine.proofs.course.execute.Given as goal
 
-abbrev pub invariant-loop-passes : goal.invariant-loop-passes
-invariant-loop-passes l =
-    Sofar l.tape l.starts l.funcs l.first l.arguments l.initial.memory l.limit (flat l.g l.fors l.passes l.backs l.bases l.operands l.slots l.memory)
+abbrev pub invariant-loop-stacks : goal.invariant-loop-stacks
+invariant-loop-stacks l =
+    Sofar l.program.tape.now l.program.starts l.program.places l.program.first l.arguments l.initial.memory l.limit (flat_of l.g l.stacks l.memory)
 
-abbrev pub decreases-loop-passes : goal.decreases-loop-passes
-decreases-loop-passes l =
-    work_left l.tape l.limit l.g.steps l.g.at
+abbrev pub decreases-loop-stacks : goal.decreases-loop-stacks
+decreases-loop-stacks l =
+    work_left l.program.tape.now l.limit l.g.steps l.g.at

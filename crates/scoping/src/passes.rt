@@ -4,8 +4,8 @@
 ghost use Rattle.std.specs.Prelude.{◌≡◌};
 ghost use Rattle.scoping.specs.Passes.{heading, noted, expressions_of, arity_of};
 
-use word::reader::Reader;
 use word::Record;
+use word::reader::Reader;
 
 // What PROGRAM says: how many functions there are, and where the first one begins, after the arrays.
 #[derive(Clone, Copy)]

@@ -1,12 +1,12 @@
 -- A count by one record, by one part and by one function: how what the code does there is what the definitions say. Assumes nothing.
 use mathlib.Core.Path.{◌≡◌, refl, sym, ap, ◌∙◌}
-use mathlib.Core.Bool.{Bool, true, false, cond}
+use mathlib.Core.Bool.{Bool, true, false}
 use mathlib.Core.List.{List, [], ◌∷◌}
 use Prim.Native.Nat.{ℕ, zero, suc, ◌+◌, ◌-◌, ◌≤◌, ◌<◌}
 use native.Mathlib.Omega.{arith}
 use borrow.Author.Tests.{le-leb, lt-leb}
-use lib.Dec.{leb, ltb}
-use lib.ListN.{length, set as keep, length-set}
+use lib.Dec.{leb}
+use lib.ListN.{length, length-set}
 use Rattle.word.specs.Reader.{read_at}
 use Rattle.word.specs.declared.Record.{Record}
 use Rattle.word.specs.declared.reader.Reader.{Reader}
@@ -22,7 +22,7 @@ use Rattle.costing.specs.Counting.{moved, plus, times, weight, past, tally_one, 
 use Rattle.costing.specs.Totals.{Totals, body_at, keeping, function_by, function_at, Outcome, outcome, or_over, functions_from, counted}
 use Rattle.costing.specs.declared.count.Count.{Count}
 use Rattle.translation.specs.Compile.{announced}
-use Rattle.std.specs.Prelude.{Ok, Err}
+use Rattle.std.specs.Prelude.{Ok}
 use Rattle.word.specs.Refusals.{refuse}
 
 -- ---- an expression's records

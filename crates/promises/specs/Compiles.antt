@@ -7,7 +7,7 @@ use Rattle.tape.specs.Tape.{tape}
 use Rattle.tape.specs.Steps.{steps_exposed}
 use Rattle.translation.specs.Translate.{translate}
 use Rattle.translation.specs.Compile.{stages, first_of, compile}
-use Rattle.std.specs.Prelude.{Ok, Err}
+use Rattle.std.specs.Prelude.{Ok}
 use Rattle.word.specs.Refusals.{refuse}
 
 -- the words of the records written

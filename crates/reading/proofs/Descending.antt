@@ -1,15 +1,13 @@
 -- Walks without trees: parts one after another are a run, an expression is the run of its parts, a statement that of its expressions and then
 -- of its statements; and what is read where a record stands, in the code's steps. Assumes nothing.
-use Rattle.std.proofs.Common.{◌≡◌, ℕ, zero, suc, ◌+◌, ◌-◌, ◌<◌, ◌≤◌, Bool, true, false, cond, not, ◌&&◌, List, refl, sym, ap, ◌∙◌, arith, add-one, sub-one, eqb}
+use Rattle.std.proofs.Common.{◌≡◌, ℕ, zero, suc, ◌+◌, ◌-◌, ◌<◌, ◌≤◌, Bool, true, false, cond, not, ◌&&◌, List, refl, sym, ap, ◌∙◌, arith, sub-one, eqb}
 use Rattle.std.specs.Prelude.{Ok, Err}
 use borrow.Author.Tests.{ne_eqb}
-use Rattle.word.specs.Records.{records}
 use Rattle.word.specs.Reader.{read_at}
 use Rattle.word.specs.Refusals.{OrRefused, refuse, ◌>>=◌}
-use Rattle.word.specs.declared.Record.{Record}
 use Rattle.word.specs.declared.reader.Reader.{Reader}
 use Rattle.script.specs.Tree.{Expr, more, call, Stmt, seq, next}
-use Rattle.script.specs.Table.{HeadE, NUM, TRUE, FALSE, VAR, GET, LNOT, BNOT, BIN, CALL, HeadS, SKIP, SEQ, DEF, SET, PUT, FOR, IF, RETURN, read_e, read_s, expression, statement, Lead, lead_by}
+use Rattle.script.specs.Table.{HeadE, NUM, TRUE, FALSE, VAR, GET, LNOT, BNOT, BIN, CALL, HeadS, SKIP, SEQ, DEF, SET, PUT, FOR, IF, RETURN, read_e, read_s, expression, statement, lead_by}
 use Rattle.script.specs.Parse.{Parsed, parsed, refused, and_then, parts, build_e, enter_e, too_deep, parse_e, whole, Nest, nests, inside, sequence, build_s, enter_if, enter_s, parse_s}
 use Rattle.script.specs.declared.Env.{Env}
 use Rattle.script.specs.Shape.{parts_in, expressions_in, statements_in}

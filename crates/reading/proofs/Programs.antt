@@ -1,21 +1,20 @@
 -- Walks over PROGRAM, its arrays and its functions, in the code's steps; and the stage's answer by the whole walk. Assumes nothing.
-use Rattle.std.proofs.Common.{◌≡◌, ℕ, suc, ◌+◌, ◌-◌, ◌<◌, ◌≤◌, Bool, true, false, cond, ◌&&◌, List, ◌∷◌, length, refl, sym, ap, ◌∙◌, arith, add-one, ltb, leb}
-use Rattle.std.specs.Prelude.{Ok, Err}
+use Rattle.std.proofs.Common.{◌≡◌, ℕ, suc, ◌+◌, ◌-◌, ◌<◌, ◌≤◌, Bool, true, false, cond, ◌&&◌, List, ◌∷◌, length, refl, arith, ltb, leb}
+use Rattle.std.specs.Prelude.{Ok}
 use mathlib.Core.Bool.{and-eq-true_iff}
 use borrow.Author.Tests.{leb-true}
-use Rattle.word.specs.Records.{records, sized, same}
+use Rattle.word.specs.Records.{records, sized}
 use Rattle.word.specs.Reader.{read_at}
-use Rattle.word.specs.Refusals.{OrRefused, refuse, ◌>>=◌}
+use Rattle.word.specs.Refusals.{refuse, ◌>>=◌}
 use Rattle.word.specs.declared.Record.{Record}
-use Rattle.word.specs.declared.reader.Reader.{Reader}
 use Rattle.script.specs.Tree.{Program}
-use Rattle.script.specs.Table.{program, array, function, lead_by, Lead, node, fault}
+use Rattle.script.specs.Table.{program, array, function, lead_by}
 use Rattle.script.specs.Parse.{Parsed, parsed, refused, and_then, sequence, parse_s, outermost, entered, passed, func_of, headed, parse_funcs, nowhere, parse_arrays, parse_program, wholly, read_table}
 use Rattle.script.specs.Stage.{clean}
 use Rattle.script.specs.declared.Env.{Env}
 use Rattle.reading.specs.Structure.{due_of, leads, walk_of, fault_of, structured}
 use Rattle.reading.proofs.Tested.{in_range, lead_is}
-use Rattle.reading.proofs.Descending.{Walk, then_walk, same_walk, sequence_one}
+use Rattle.reading.proofs.Descending.{then_walk, same_walk, sequence_one}
 
 -- ---- the arrays: what is left of them after k of n
 pub arrays_more : (t : List ℕ) (n k at : ℕ) → k < n

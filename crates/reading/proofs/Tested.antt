@@ -1,7 +1,7 @@
 -- The record where one of a class is due: what is read there is what follows a record that is found and leads a part of the class, or its refusal.
 -- Assumes nothing.
-use Rattle.std.proofs.Common.{◌≡◌, ℕ, ◌+◌, ◌<◌, Bool, true, false, cond, List, refl, ltb, arith}
-use Rattle.std.specs.Prelude.{Ok, Err}
+use Rattle.std.proofs.Common.{◌≡◌, ℕ, ◌+◌, Bool, true, false, cond, List, refl, ltb, arith}
+use Rattle.std.specs.Prelude.{Ok}
 use Rattle.word.specs.Records.{records, record_at, same}
 use Rattle.word.specs.Reader.{found_if, read_at}
 use Rattle.word.specs.Refusals.{OrRefused, refuse, ◌>>=◌}

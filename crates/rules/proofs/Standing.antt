@@ -28,7 +28,7 @@ use Rattle.rules.specs.Reduction.{Label, quiet, counts, Reduces, EXR-VAR, EXR-AR
 use Rattle.rules.specs.Correspondence.{Reaches, here, quietly, counting, Corresponds, done, due, counter_of, StandsAt, FollowsRules}
 use Rattle.rules.proofs.Around.{nothing}
 use Rattle.rules.proofs.Locked.{Lock, rest, rule, record_of, both, Serves, body_lock, serves_next, same_next}
-use Rattle.std.specs.Prelude.{Ok, Err}
+use Rattle.std.specs.Prelude.{Ok}
 
 -- ---- κ goes up by one at a counted rule, and stays at a quiet one
 unfoldable size : Label → ℕ

@@ -1,5 +1,5 @@
 -- The code's steps of scope: the scan over a statement's expressions by the record that is found, and the functions one by one. Assumes nothing.
-use Rattle.std.proofs.Common.{◌≡◌, ℕ, ◌+◌, ◌-◌, ◌<◌, ◌≤◌, Bool, true, false, List, refl, ap, ◌∙◌, arith}
+use Rattle.std.proofs.Common.{◌≡◌, ℕ, ◌+◌, ◌-◌, ◌<◌, ◌≤◌, true, false, List, refl, ◌∙◌, arith}
 use borrow.Author.Tests.{le-leb, lt-leb}
 use Rattle.std.specs.Prelude.{Ok, Some, None}
 use Rattle.word.specs.Records.{records}
@@ -7,9 +7,8 @@ use Rattle.word.specs.Reader.{read_at}
 use Rattle.word.specs.Refusals.{refuse, ◌>>=◌}
 use Rattle.word.specs.declared.Record.{Record}
 use Rattle.word.specs.declared.reader.Reader.{Reader}
-use Rattle.script.specs.Stage.{Walked, goes, stops, onward}
 use Rattle.script.proofs.Leading.{from}
-use Rattle.scoping.specs.Passes.{turn, answered, past, walk, then_first, funcs_from}
+use Rattle.scoping.specs.Passes.{turn, answered, past, walk, funcs_from}
 use Rattle.scoping.specs.Scoped.{hides, seek_at, seek, closed_by, entering, scoping, parameters_of, scoped_func}
 use Rattle.scoping.specs.declared.scope.Slots.{Slots}
 use Rattle.scoping.proofs.Found.{found_on, found_none}

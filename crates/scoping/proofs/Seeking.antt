@@ -1,18 +1,17 @@
 -- The scan over a statement's expressions: over a tree's records it says what `scope_e` says of the tree.
 -- Assumes nothing.
-use Prim.Native.Nat.{ℕ, ◌+◌, ◌≤◌, ◌<◌}
+use Prim.Native.Nat.{ℕ, ◌+◌}
 use native.Mathlib.Omega.{arith}
 use mathlib.Core.Path.{◌≡◌, refl, ap, ◌∙◌}
 use mathlib.Core.Bool.{Bool, true, false, not, ◌||◌}
 use mathlib.Core.List.{List, [], ◌∷◌}
-use borrow.Author.Tests.{le-leb, lt-leb}
 use Rattle.word.specs.Slots.{here, Seen, hidden, fixed, defined}
 use Rattle.word.specs.Sets.{has}
 use Rattle.word.specs.declared.Record.{Record}
 use Rattle.script.specs.Tree.{Expr, num, tru, fls, var, get, lnot, bnot, bin, call, Exprs, none, more, Stmt, skip, seq, def, set, put, for, if, return, Stmts, done, next, Func, size_e, size_es}
 use Rattle.script.specs.Table.{VAR, write_e, write_s}
 use Rattle.script.specs.Written.{list_e, list_es, list_s, list_ss, list_funcs}
-use Rattle.script.specs.Stage.{Walked, goes, stops, after}
+use Rattle.script.specs.Stage.{Walked, goes, after}
 use Rattle.script.specs.Scope.{readable, scope_e, scope_es}
 use Rattle.scoping.specs.Scoped.{seen_of, hides, seek_at, seek}
 use Rattle.scoping.specs.declared.scope.Slots.{Slots}

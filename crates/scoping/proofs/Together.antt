@@ -18,7 +18,6 @@ use Rattle.script.proofs.Leading.{from}
 use Rattle.scoping.proofs.Found.{finds, lists, begins}
 use Rattle.scoping.proofs.Walking.{walk_found}
 use Rattle.std.specs.Prelude.{Ok, Err}
-use Rattle.word.specs.Refusals.{refuse}
 
 pub data Together {A B : Type 0} (mean : A → B) (end : ℕ) : Walked (At A) → Walked B → Type 0 where
   both_go : {a : A} {b : B} → mean a ≡ b → Together mean end (come end a) (goes b)

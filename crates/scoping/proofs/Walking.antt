@@ -9,7 +9,7 @@ use Rattle.word.specs.declared.Refusal.{Refusal}
 use Rattle.word.specs.declared.reader.Reader.{Reader}
 use Rattle.std.proofs.lemmas.Bool.Decides.{nat_tests}
 use Rattle.std.specs.Prelude.{Ok, Err, Some, None}
-use Rattle.word.specs.Refusals.{OrRefused, refuse, ◌>>=◌}
+use Rattle.word.specs.Refusals.{OrRefused, ◌>>=◌}
 use Rattle.script.specs.Stage.{clean, Walked, goes, stops, onward}
 use Rattle.script.specs.Stage.{First}
 use Rattle.script.specs.Table.{read_s}

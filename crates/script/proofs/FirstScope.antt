@@ -12,7 +12,6 @@ use Rattle.script.specs.Written.{listing, Within}
 use Rattle.script.proofs.Firsts.{not_clean, not_goes, or_from, after_from, onward_from, refuse_from, close_stops, ended_stops, or_like, after_like, onward_like, refuse_like, close_like, ended_like}
 use Rattle.script.proofs.Beginning.{LikeE, past_e, same_e_lem, like_get, like_lnot, like_bnot, like_bin, like_call, LikeEs, past_es, like_none, like_more, LikeS, past_s, same_s_lem, like_seq, like_def, like_set, like_put, like_for, like_if, like_return, LikeSs, past_ss, like_done, like_next}
 use Rattle.script.proofs.Agreeing.{LikeFs, past_fs, like_end, like_func, begin_alike}
-use Rattle.std.specs.Prelude.{Ok, Err}
 use Rattle.word.proofs.Refused.{refused_place}
 use Rattle.word.specs.Refusals.{refuse}
 

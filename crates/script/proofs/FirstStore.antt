@@ -11,7 +11,6 @@ use Rattle.script.specs.Written.{listing, Within}
 use Rattle.script.proofs.Firsts.{not_clean, or_from, or_like}
 use Rattle.script.proofs.Beginning.{LikeS, past_s, same_s_lem, like_seq, like_def, like_set, like_put, like_for, like_if, like_return, LikeSs, past_ss, like_done, like_next}
 use Rattle.script.proofs.Agreeing.{LikeFs, past_fs, like_end, like_func, begin_alike}
-use Rattle.std.specs.Prelude.{Ok, Err}
 use Rattle.word.proofs.Refused.{refused_place}
 use Rattle.word.specs.Refusals.{refuse}
 

@@ -25,7 +25,7 @@ use Rattle.script.proofs.Judged.{shows, Context, ty_in, after_s, after_ss, Fine,
 use Rattle.script.proofs.Placing.{Places, Ordered, a_func, ordered}
 use Rattle.script.proofs.Viewing.{shown_as, view, is_number, is_boolean, are_alike, ty_view, fine}
 use Rattle.script.proofs.Declaring.{Held, Later, later_refl, later_trans, held_declare, later_declare, view_declare, closed_held, closed_later, view_later, begin_held, begin_view}
-use Rattle.std.specs.Prelude.{Ok, Err}
+use Rattle.std.specs.Prelude.{Ok}
 
 settable_shown : (k : Seen) (at : ℕ) (t : Ty) → settable k at ≡ Ok tt → shown_as k t ≡ shows t
 unfolding settable shown_as

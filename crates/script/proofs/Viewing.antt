@@ -15,7 +15,7 @@ use Rattle.script.specs.declared.Env.{Env}
 use Rattle.script.proofs.Walks.{faulty, both_clean, required}
 use Rattle.script.proofs.Placing.{Places}
 use Rattle.script.proofs.Judged.{Shown, hides, shows, Context, shown_ty, types_of, ty_in, Fine, Fines}
-use Rattle.std.specs.Prelude.{Ok, Err}
+use Rattle.std.specs.Prelude.{Ok}
 
 unfoldable pub shown_as : Seen → Ty → Shown
 shown_as hidden t = hides

@@ -31,7 +31,6 @@ use Rattle.scoping.proofs.Past.{past_e}
 use Rattle.stages.proofs.Gathering.{typed_found}
 use Rattle.scoping.proofs.Together.{or_assoc}
 use Rattle.std.specs.Prelude.{Ok, Err}
-use Rattle.word.specs.Refusals.{refuse}
 
 -- ---- types as tests
 pub boolean_ty : (b : Bool) → is_boolean (ty_of b) ≡ b

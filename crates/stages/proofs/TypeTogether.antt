@@ -6,10 +6,8 @@ use native.Mathlib.Omega.{arith}
 use mathlib.Core.Path.{◌≡◌, refl, sym, ap, ◌∙◌, fun_ext}
 use mathlib.Core.Bool.{Bool, true, false, cond, not, ◌&&◌}
 use mathlib.Core.List.{List, ◌∷◌}
-use borrow.Author.Tests.{ltb-false}
-use lib.Dec.{eqb, ltb}
+use lib.Dec.{eqb}
 use lib.ListN.{length, set as write, length-set}
-use lib.Seq.{set_out}
 use Rattle.word.specs.Records.{rec}
 use Rattle.word.specs.Slots.{here, upd}
 use Rattle.word.specs.Types.{Ty, is_numeric, alike}

@@ -16,7 +16,7 @@ use Rattle.reading.proofs.Programs.{read_clean, refused_fault}
 use Rattle.scoping.proofs.ScopeTogether.{scoped_is}
 use Rattle.stages.proofs.TypeTogether.{typed_is}
 use Rattle.stages.proofs.Storing.{stored_is}
-use Rattle.std.specs.Prelude.{Ok, Err}
+use Rattle.std.specs.Prelude.{Ok}
 
 pub by_stages : (t : List ℕ) → Words t → or_else (structured t) (or_else (scoped t) (or_else (typed t) (stored t))) ≡ judged t
 unfolding judged judged_by checked or_else

@@ -7,7 +7,7 @@ use Rattle.word.specs.Sets.{has, put}
 use Rattle.word.specs.declared.Record.{Record}
 use Rattle.word.specs.Reader.{Read}
 use Rattle.std.specs.Prelude.{Some, None, unwrap_or}
-use Rattle.script.specs.Stage.{clean, or_else, Walked, goes, stops, after, onward}
+use Rattle.script.specs.Stage.{clean, or_else, Walked, goes, after, onward}
 use Rattle.script.specs.Types.{Types, require}
 use Rattle.scoping.specs.Passes.{At, come, noted, expressions_of, arity_of, Turn, turn, walk, Over, staged}
 use Rattle.script.specs.Stage.{First}

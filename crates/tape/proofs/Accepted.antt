@@ -21,7 +21,7 @@ use Rattle.tape.proofs.Knowing.{knows_steps, within_most}
 use Rattle.tape.proofs.Finished.{funcs_all, steps_length, sounds_all, Finished}
 use Rattle.tape.proofs.Stands.{Stands, program_due, array_due, function_due, body_due, nothing_due}
 use Rattle.tape.proofs.Postfix.{stands_next}
-use Rattle.std.specs.Prelude.{Ok, Err}
+use Rattle.std.specs.Prelude.{Ok}
 
 pub record ProgramOf (t : List ℕ) (m : ℕ) : Type 0 where
   pub program : CProgram

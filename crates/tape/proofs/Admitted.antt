@@ -26,7 +26,7 @@ use Rattle.tape.proofs.Knowing.{Knows, knows_none, knows_steps, knows_length, kn
 use Rattle.tape.proofs.Finished.{steps_length}
 use Rattle.tape.proofs.Accepted.{ProgramOf, accepted_is_program}
 use Rattle.tape.proofs.Scanning.{goes_on, body_of, s_scans}
-use Rattle.std.specs.Prelude.{Ok, Err}
+use Rattle.std.specs.Prelude.{Ok}
 
 -- the scan comes from the code c in the state s to the code c₁, where w is due; the functions that it knows there have these parameters and steps
 record Comes (s : Scan) (at : ℕ) (c : Code) (w : Due) (π : ℕ → ℕ) (steps : List ℕ) (c₁ : Code) : Type 0 where

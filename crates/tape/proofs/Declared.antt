@@ -22,7 +22,7 @@ use Rattle.tape.proofs.Declaring.{arrays_before, functions_before, length_at, le
 use Rattle.tape.proofs.Steady.{Fine, fine_at, both}
 use Rattle.tape.proofs.Entered.{began, StandsAt}
 use Rattle.tape.proofs.Positions.{placed_at, entry_there}
-use Rattle.std.specs.Prelude.{Ok, Err}
+use Rattle.std.specs.Prelude.{Ok}
 
 over_by : (d : Due) (s : Scan) (n m : ℕ) → at_end (more d) s n ≡ Ok m → d ≡ nothing
 unfolding more at_end

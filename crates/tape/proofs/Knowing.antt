@@ -16,7 +16,7 @@ use Rattle.tape.specs.Check.{unless_over, within}
 use Rattle.tape.specs.Check.{Checked}
 use Rattle.tape.proofs.Places.{never}
 use Rattle.tape.proofs.Limits.{Each, none, one}
-use Rattle.std.specs.Prelude.{Ok, Err}
+use Rattle.std.specs.Prelude.{Ok}
 
 -- what the scan says of a function that it does not know
 abbrev pub unknown : Known

@@ -16,7 +16,7 @@ use Rattle.tape.specs.Scan.{Scan, start, next}
 use Rattle.tape.specs.Faults.{due, more, asks, unless, unmet, fault}
 use Rattle.tape.specs.Check.{at_end, judge, scan, check}
 use Rattle.tape.specs.Check.{Checked}
-use Rattle.std.specs.Prelude.{Ok, Err}
+use Rattle.std.specs.Prelude.{Ok}
 use Rattle.word.specs.Refusals.{refuse}
 
 unfoldable pub scan_at : List ℕ → ℕ → Scan

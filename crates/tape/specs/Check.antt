@@ -6,7 +6,7 @@ use Rattle.tape.specs.Instruction.{read}
 use Rattle.tape.specs.Steps.{most}
 use Rattle.tape.specs.Scan.{Known, Scan, known_at, start, next}
 use Rattle.tape.specs.Faults.{more, fault}
-use Rattle.std.specs.Prelude.{Ok, Err}
+use Rattle.std.specs.Prelude.{Ok}
 use Rattle.word.specs.Refusals.{OrRefused, refuse}
 
 -- accepted, with the steps of the exposed function; or refused

@@ -20,7 +20,7 @@ use Rattle.translation.specs.Compile.{costs, stages, first_of}
 use Rattle.translation.proofs.Expressions.{Same}
 use Rattle.translation.proofs.Correct.{correct}
 use Rattle.translation.proofs.Translated.{translated_sound}
-use Rattle.std.specs.Prelude.{Ok, Err}
+use Rattle.std.specs.Prelude.{Ok}
 
 pub record Stages (p : Program) : Type 0 where
   pub scope : over_program scope_f p ≡ Ok tt

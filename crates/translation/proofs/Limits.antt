@@ -22,7 +22,7 @@ use Rattle.translation.specs.Compile.{unless_over, within, costs, stages, first_
 use Rattle.translation.proofs.Accepted.{stages_clean, accepted_translated}
 use Rattle.translation.proofs.Sizes.{tape_most}
 use Rattle.translation.proofs.Ranges.{translated_fit}
-use Rattle.std.specs.Prelude.{Ok, Err}
+use Rattle.std.specs.Prelude.{Ok}
 
 -- 12: no function takes more steps than that
 unless_clean : (b : Bool) (place : ℕ) {rest : First} → unless_over b place rest ≡ Ok tt → (b ≡ true) × (rest ≡ Ok tt)

@@ -27,7 +27,7 @@ use Rattle.tape.proofs.Staying.{was_hidden}
 use Rattle.translation.specs.Translate.{layout, EXT, EXTs, context, masking, merge, STT, STTs, FDEFT, translate}
 use Rattle.translation.proofs.Relation.{rval, rnset, condition}
 use Rattle.translation.proofs.Standing.{Stands, stands_declare, stands_deeper, stands_shallower, stands_closed, stands_loop, begin_definable, stands_begin}
-use Rattle.std.specs.Prelude.{Ok, Err}
+use Rattle.std.specs.Prelude.{Ok}
 
 seen_readable : (z : Seen) (at : ℕ) → seeable z at ≡ Ok tt → readable z ≡ true
 unfolding seeable readable

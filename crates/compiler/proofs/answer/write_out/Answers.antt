@@ -1,5 +1,5 @@
 -- `compiler::answer::write_out` meets its contract: the cost decides, and the walk writes; of a table that is read both are the program's. Assumes nothing.
-use Rattle.std.proofs.Common.{◌≡◌, ℕ, sym, ap, ◌∙◌, arith}
+use Rattle.std.proofs.Common.{sym, ap, ◌∙◌, arith}
 use Rattle.std.specs.Prelude.{Err}
 use Rattle.std.proofs.lemmas.Result.{err_from_is_err_and}
 use Rattle.word.proofs.Memory.{words_of}

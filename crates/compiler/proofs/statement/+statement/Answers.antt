@@ -1,12 +1,12 @@
 -- `compiler::statement::statement` meets its contract: where a record was found the walk enters the statement that it begins, whose kind makes
 -- the definition compute. Assumes nothing.
-use Rattle.std.proofs.Common.{◌≡◌, ℕ, sym, ap, ◌∙◌, ◌-◌, suc, add-one, arith}
+use Rattle.std.proofs.Common.{◌≡◌, ℕ, sym, ◌-◌, add-one, arith}
 use Rattle.script.specs.Table.{read_s}
 use Rattle.script.proofs.Heads.{head_seq, head_for, head_if}
 use Rattle.tape.specs.Named.{named}
 use Rattle.translation.specs.Translate.{layout}
 use Rattle.emitting.specs.Emitting.{sheet}
-use Rattle.emitting.specs.Walking.{Desk, desk, desk_of, looping, branching, head_s, walk_s}
+use Rattle.emitting.specs.Walking.{desk, desk_of, looping, branching, head_s, walk_s}
 use Rattle.emitting.proofs.Stepping.{times_over, walk_s_found}
 use Rattle.compiler.proofs.statement.+statement.Goals as goal
 use Rattle.compiler.proofs.statement.+statement.Goals.{In-Some}

@@ -1,6 +1,5 @@
 -- `reading::leads::function_leads` meets its contract: its kind makes the definition compute. Assumes nothing.
 use Rattle.std.proofs.Common.{arith}
-use Rattle.std.proofs.lemmas.Grind.{common_steps}
 use Rattle.std.proofs.lemmas.Bool.Decides.{nat_tests}
 use Rattle.word.specs.Records.{same}
 use Rattle.script.specs.Table.{function, lead_by}

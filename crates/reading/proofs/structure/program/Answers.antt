@@ -1,5 +1,5 @@
 -- `reading::structure::program` has sixteen functions at most to read: PROGRAM's record leads. Assumes nothing.
-use Rattle.std.proofs.Common.{sym, ◌∙◌}
+use Rattle.std.proofs.Common.{sym}
 use Rattle.script.specs.Parse.{nowhere}
 use Rattle.reading.proofs.Programs.{program_room}
 use Rattle.reading.proofs.structure.program.Goals as goal

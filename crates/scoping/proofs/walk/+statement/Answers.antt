@@ -1,5 +1,5 @@
 -- `scoping::walk::statement` meets its contract: the record that is found is the statement's, and a fault of a part is the whole's. Assumes nothing.
-use Rattle.std.proofs.Common.{sym, refl, ap, ◌∙◌, ◌-◌, arith}
+use Rattle.std.proofs.Common.{sym, ◌∙◌, ◌-◌, arith}
 use Rattle.word.proofs.Walk.{read_found}
 use Rattle.scoping.proofs.Walking.{turns_more, walk_parts}
 use Rattle.scoping.specs.Passes.{turn, walk, answered}

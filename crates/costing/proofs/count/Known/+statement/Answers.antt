@@ -1,6 +1,6 @@
 -- `costing::count::Known::statement` meets its contract: where a record was found the count enters the statement that it begins, whose kind makes
 -- the definition compute. Assumes nothing.
-use Rattle.std.proofs.Common.{◌≡◌, ℕ, sym, ap, ◌∙◌, ◌-◌, suc, add-one, arith}
+use Rattle.std.proofs.Common.{◌≡◌, ℕ, sym, ap, ◌∙◌, ◌-◌, add-one, arith}
 use Rattle.script.specs.Table.{read_s}
 use Rattle.script.proofs.Heads.{head_seq, head_for, head_if}
 use Rattle.costing.specs.Counting.{moved, branching, head, statement}

@@ -1,5 +1,5 @@
 -- `costing::count::Known::expression` meets its contract: a record that is found is a step of the tally. Assumes nothing.
-use Rattle.std.proofs.Common.{sym, ◌∙◌, arith}
+use Rattle.std.proofs.Common.{sym, arith}
 use Rattle.scoping.proofs.ScopeSteps.{seek_smaller}
 use Rattle.costing.proofs.Turns.{tally_found}
 use Rattle.costing.proofs.count.Known.expression.Goals as goal

@@ -2,15 +2,17 @@
 -- fault's number. Assumes nothing.
 use Prim.Native.Nat.{ℕ, zero, suc}
 use native.Mathlib.Omega.{arith}
-use mathlib.Core.Path.{◌≡◌, refl, sym, ap, ◌∙◌}
+use mathlib.Core.Path.{◌≡◌, refl, ◌∙◌}
 use mathlib.Core.Bool.{Bool, true, false, true≢false, false≢true}
 use Rattle.std.specs.Prelude.{Result, Ok, Err, is_err}
 use Rattle.word.specs.Records.{same}
 use Rattle.word.specs.declared.Record.{Record}
+use Rattle.word.specs.declared.reason.Reason.{Reason}
+use Rattle.word.proofs.Reasons.{number_some}
 use Rattle.tape.specs.Instruction.{read, write}
 use Rattle.tape.specs.Scan.{Scan}
 use Rattle.tape.specs.Faults.{Asked, due, more, asks, unless, unmet, fault}
-use Rattle.checker.specs.Ready.{faulty, fields_fault, fault_but}
+use Rattle.checker.specs.Ready.{said, fields_fault, fault_but}
 
 pub record Met (s : Scan) (x : Record) : Type 0 where
   pub more : more s.due ≡ true
@@ -92,22 +94,16 @@ module _ (s : Scan) (x : Record) where
   fault_last e = fault_split ∙ rw e refl
 
 -- ---- what an answer says of a fault's number
-pub faulty_none : (n : ℕ) (r : Result (Unit {0}) ℕ) → r ≡ faulty n → is_err r ≡ false → n ≡ 0
-unfolding faulty
-faulty_none zero r is e = refl
-faulty_none (suc n) r is e = absurd (true≢false (sym (ap is_err is) ∙ e))
+pub said_none : (r : Result (Unit {0}) Reason) → is_err r ≡ false → said r ≡ 0
+unfolding said
+said_none (Ok u) e = refl
+said_none (Err r) e = absurd (true≢false e)
 
-pub faulty_some : (n : ℕ) (r : Result (Unit {0}) ℕ) → r ≡ faulty n → is_err r ≡ true → n ≡ 0 → ⊥
-unfolding faulty
-faulty_some zero r is e h = false≢true (sym (ap is_err is) ∙ e)
-faulty_some (suc n) r is e h = omega arith
+pub said_some : (r : Result (Unit {0}) Reason) → is_err r ≡ true → said r ≡ 0 → ⊥
+unfolding said
+said_some (Ok u) e h = false≢true e
+said_some (Err r) e h = omega (arith, number_some r)
 
-pub faulty_number : (n k : ℕ) → Err k ≡ faulty n → k ≡ n
-unfolding faulty
-faulty_number zero k e = cc
-faulty_number (suc n) k e = cc
-
-pub faulty_ok : (n : ℕ) (r : Result (Unit {0}) ℕ) → r ≡ faulty n → is_err r ≡ false → r ≡ Ok tt
-unfolding faulty
-faulty_ok zero r is e = is
-faulty_ok (suc n) r is e = absurd (true≢false (sym (ap is_err is) ∙ e))
+pub said_ok : (r : Result (Unit {0}) Reason) → is_err r ≡ false → r ≡ Ok tt
+said_ok (Ok u) e = refl
+said_ok (Err r) e = absurd (true≢false e)

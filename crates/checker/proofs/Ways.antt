@@ -10,6 +10,7 @@ use Rattle.word.specs.Records.{records, record_at, records_of}
 use Rattle.word.specs.Reader.{read_at}
 use Rattle.word.specs.Slots.{hidden}
 use Rattle.word.specs.declared.Record.{Record}
+use Rattle.word.specs.declared.reason.Reason.{Reason}
 use Rattle.word.specs.declared.reader.Reader.{Reader}
 use Rattle.std.specs.Prelude.{Some, None, Result, is_err}
 use Rattle.word.proofs.Walk.{read_found, read_end}
@@ -20,9 +21,9 @@ use Rattle.checker.specs.declared.standing.Standing.{Standing}
 use Rattle.checker.specs.declared.standing.Functions.{Functions}
 use Rattle.checker.specs.declared.standing.Bodies.{Bodies}
 use Rattle.checker.specs.Standing.{due_of, rank, shown_by, searched_of, least_of, most_of, scope_at, scan_of}
-use Rattle.checker.specs.Ready.{Room, faulty, fault_but}
+use Rattle.checker.specs.Ready.{Room, said, fault_but}
 use Rattle.checker.proofs.Allowed.{deep_is, known_is, room_is}
-use Rattle.checker.proofs.Clear.{fault_first, faulty_none, faulty_some}
+use Rattle.checker.proofs.Clear.{fault_first, said_none, said_some}
 use Rattle.checker.proofs.Search.{shown_on}
 use Rattle.checker.proofs.SlotRule.{searched_le}
 use Rattle.checker.proofs.Leaving.{body_shows, slot_refused, slot_allowed, slot_barred}
@@ -52,11 +53,11 @@ module _ {t : List ℕ} {s : Standing} {f : Functions} {b : Bodies} {at : ℕ} (
     stops n r is h = stands_stop t s f b at here x is_there.0 is_there.1 n r is h
 
     -- it has a fault, its slot apart
-    pub fault_stops : (r : Checked) {found : Result (Unit {0}) ℕ} → found ≡ faulty (fault_but (scan_of s f b) x) → is_err found ≡ true
-        → judge (fault_but (scan_of s f b) x) at r ≡ scan start 0 (records_of t)
-    fault_stops r {found} is e =
-        let some = faulty_some (fault_but (scan_of s f b) x) found is e in
-        stops (fault_but (scan_of s f b) x) r (fault_first (scan_of s f b) x some) some
+    pub fault_stops : (r : Checked) (found : Result (Unit {0}) Reason) → said found ≡ fault_but (scan_of s f b) x → is_err found ≡ true
+        → judge (said found) at r ≡ scan start 0 (records_of t)
+    fault_stops r found is e =
+        let some : fault_but (scan_of s f b) x ≡ 0 → ⊥ = λ none. said_some found e (is ∙ none) in
+        rw is (stops (fault_but (scan_of s f b) x) r (fault_first (scan_of s f b) x some) some)
 
 -- ---- in the search: the record has no fault but for its slot, and no body that was searched, from d₀ to d, shows the slot
 pub record Searched (s : Standing) (f : Functions) (b : Bodies) (x : Record) (high d₀ d : ℕ) : Type 0 where
@@ -65,11 +66,11 @@ pub record Searched (s : Standing) (f : Functions) (b : Bodies) (x : Record) (hi
   pub from : d₀ ≡ searched_of x.kind s.deep
   pub so_far : scope_at s.params b d₀ x.p ≡ scope_at s.params b d x.p
 
-pub searched : {s : Standing} {f : Functions} {b : Bodies} {x : Record} {found : Result (Unit {0}) ℕ} {high d₀ d : ℕ}
-    → found ≡ faulty (fault_but (scan_of s f b) x) → is_err found ≡ false
+pub searched : {s : Standing} {f : Functions} {b : Bodies} {x : Record} (found : Result (Unit {0}) Reason) {high d₀ d : ℕ}
+    → said found ≡ fault_but (scan_of s f b) x → is_err found ≡ false
     → high ≡ most_of x.kind → d₀ ≡ searched_of x.kind s.deep → scope_at s.params b d₀ x.p ≡ scope_at s.params b d x.p → Searched s f b x high d₀ d
-searched {s} {f} {b} {x} {found} is e most from so_far =
-    record { clear = faulty_none (fault_but (scan_of s f b) x) found is e; most = most; from = from; so_far = so_far }
+searched {s} {f} {b} {x} found is e most from so_far =
+    record { clear = sym is ∙ said_none found e; most = most; from = from; so_far = so_far }
 
 -- one body further out
 pub further : (p : ℕ) (b : Bodies) (x d : ℕ) → 0 < d → shown_by b d x ≡ hidden → scope_at p b d x ≡ scope_at p b (d - 1) x

@@ -1,8 +1,10 @@
 -- What the code of one record presupposes of the scan, and what it is asked. No public contract speaks of these. Assumes nothing: these are
 -- definitions.
-use Rattle.std.specs.Prelude.{◌≡◌, ℕ, zero, suc, ◌≤◌, ◌<◌, true, List, length, slice_index, Option, Some, None, Result, Ok, Err}
+use Rattle.std.specs.Prelude.{◌≡◌, ℕ, ◌≤◌, ◌<◌, true, List, length, slice_index, Option, Some, None, Result, Ok, Err}
 use Rattle.word.specs.Records.{same}
+use Rattle.word.specs.Reasons.{number_of}
 use Rattle.word.specs.declared.Record.{Record}
+use Rattle.word.specs.declared.reason.Reason.{Reason}
 use Rattle.tape.specs.Instruction.{read, write}
 use Rattle.tape.specs.Steps.{most}
 use Rattle.tape.specs.Scan.{Due, a_program, an_array, a_function, a_body, nothing, Scan}
@@ -39,10 +41,10 @@ fields_fault s x = unless (same x (write (read x))) 24 (unmet (spared (asks s (r
 unfoldable pub fault_but : Scan → Record → ℕ
 fault_but s x = unless (more s.due) 26 (unless (due s.due x.kind) 22 (fields_fault s x))
 
--- how an answer stands for a fault's number, 0 for none
-unfoldable pub faulty : ℕ → Result (Unit {0}) ℕ
-faulty zero = Ok tt
-faulty (suc n) = Err (suc n)
+-- the number of the fault that an answer names, 0 for none
+unfoldable pub said : Result (Unit {0}) Reason → ℕ
+said (Ok u) = 0
+said (Err r) = number_of r
 
 -- the first of the known functions whose steps are over the limit
 abbrev pub FirstOver : List ℕ → ℕ → Option ℕ → Type 0

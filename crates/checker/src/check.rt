@@ -5,12 +5,13 @@ ghost use Rattle.tape.specs.Scan.{start};
 ghost use Rattle.tape.specs.Faults.{more};
 ghost use Rattle.tape.specs.Check.{at_end, judge, scan, check};
 ghost use Rattle.checker.specs.Standing.{due_of, scan_of};
-ghost use Rattle.checker.specs.Ready.{Room, FirstOver, faulty};
+ghost use Rattle.checker.specs.Ready.{Room, FirstOver, said};
 ghost use Rattle.checker.specs.declared.standing.Bodies.{Bodies};
 
 use crate::slots::{Seen, most, outside, searched};
 use crate::standing::{Bodies, Due, Functions, Standing};
 use word::reader::Reader;
+use word::reason::Reason;
 use word::{Refusal, sized};
 
 impl Due {
@@ -42,30 +43,21 @@ impl Standing {
     // The answer where the scan has left the records: at a fault, or after the last one.
     fn answer(
         self,
-        found: Result<(), u32>,
+        found: Result<(), Reason>,
         at: Reader,
         functions: &Functions,
     ) -> Result<u32, Refusal>
         requires { (self.known ≤ 16) × Room (due_of self.due) self.known self.functions }
-        ensures { (n : ℕ) (b : Bodies) → found ≡ faulty n → result ≡ judge n at.at (at_end (more (due_of self.due)) (scan_of self functions.now b) at.at) }
+        ensures { (b : Bodies) → result ≡ judge (said found) at.at (at_end (more (due_of self.due)) (scan_of self functions.now b) at.at) }
     {
-        if let Err(number) = found {
-            return Err(Refusal {
-                number,
-                place: at.at,
-            });
+        if let Err(reason) = found {
+            return Err(at.refusal(reason));
         }
         if self.due.more() {
-            return Err(Refusal {
-                number: 23,
-                place: at.at,
-            });
+            return Err(at.refusal(Reason::TapeEnds));
         }
         if let Some(f) = functions.first_over(self.known) {
-            return Err(Refusal {
-                number: 30,
-                place: functions.places[f],
-            });
+            return Err(Refusal::new(Reason::Steps, functions.places[f]));
         }
         Ok(functions.steps[self.known - 1])
     }
@@ -91,7 +83,7 @@ fn scan(tape: &[u32]) -> Result<u32, Refusal>
         'bodies: while 0 < d {
             let shown = bodies.shown(d, x.p);
             if most < shown {
-                found = Err(29);
+                found = Err(Reason::Slot);
                 break 'scan;
             }
             if shown != Seen::Hidden {
@@ -100,7 +92,7 @@ fn scan(tape: &[u32]) -> Result<u32, Refusal>
             d -= 1;
         }
         if outside(x.kind, most, bodies.visible(s.params, d, x.p)) {
-            found = Err(29);
+            found = Err(Reason::Slot);
             break 'scan;
         }
         s = s.advance(x, at, &mut functions, &mut bodies);
@@ -114,10 +106,7 @@ pub fn check(tape: &[u32]) -> Result<u32, Refusal>
     ensures { result ≡ check tape.now }
 {
     if !sized(131072, tape.len()) {
-        return Err(Refusal {
-            number: 21,
-            place: 0,
-        });
+        return Err(Refusal::new(Reason::TapeWords, 0));
     }
     scan(tape)
 }

@@ -3,12 +3,13 @@ ghost use Rattle.std.specs.Prelude.{◌≡◌, ◌&&◌, suc, ◌-◌, ◌≤◌
 ghost use Rattle.tape.specs.Scan.{Scan};
 ghost use Rattle.tape.specs.Faults.{unless};
 ghost use Rattle.checker.specs.Standing.{scan_of};
-ghost use Rattle.checker.specs.Ready.{faulty, fields_fault, fault_but};
+ghost use Rattle.checker.specs.Ready.{said, fields_fault, fault_but};
 ghost use Rattle.checker.specs.declared.standing.Functions.{Functions};
 ghost use Rattle.checker.specs.declared.standing.Bodies.{Bodies};
 
 use crate::standing::{Due, Functions, Standing};
 use word::Record;
+use word::reason::Reason;
 
 // 28: so many operands are there to take, and one is left.
 fn takes(operands: u32, n: u32) -> bool
@@ -17,28 +18,28 @@ fn takes(operands: u32, n: u32) -> bool
     n <= operands && operands - n < 128
 }
 
-// The number of the first test that fails.
-#[tactic(auto, unfolding(crate::specs::Ready::faulty, tape::specs::Faults::unless))]
-fn unmet(blank: bool, range: bool, loops: bool, operands: bool) -> Result<(), u32>
-    ensures { result ≡ faulty (unless blank 24 (unless range 25 (unless loops 27 (unless operands 28 0)))) }
+// The first test that fails.
+#[tactic(auto, unfolding(crate::specs::Ready::said, tape::specs::Faults::unless))]
+fn unmet(blank: bool, range: bool, loops: bool, operands: bool) -> Result<(), Reason>
+    ensures { said result ≡ unless blank 24 (unless range 25 (unless loops 27 (unless operands 28 0))) }
 {
     if !blank {
-        Err(24)
+        Err(Reason::TapeUnused)
     } else if !range {
-        Err(25)
+        Err(Reason::TapeRange)
     } else if !loops {
-        Err(27)
+        Err(Reason::Loops)
     } else if !operands {
-        Err(28)
+        Err(Reason::Operands)
     } else {
         Ok(())
     }
 }
 
 // PROGRAM, ARRAY, CFUNC.
-fn declaration_fault(x: Record) -> Result<(), u32>
+fn declaration_fault(x: Record) -> Result<(), Reason>
     requires { (1 ≤ x.kind) × (x.kind ≤ 3) }
-    ensures { (s : Scan) → result ≡ faulty (fields_fault s x) }
+    ensures { (s : Scan) → said result ≡ fields_fault s x }
 {
     match x.kind {
         1 => unmet(x.r == 0, (1 <= x.p) & (x.p <= 16) & (x.q <= 8), true, true),
@@ -70,9 +71,9 @@ impl Functions {
 
 impl Standing {
     // The records of expressions.
-    fn expression_fault(self, x: Record, functions: &Functions) -> Result<(), u32>
+    fn expression_fault(self, x: Record, functions: &Functions) -> Result<(), Reason>
         requires { (10 ≤ x.kind) × (x.kind ≤ 15) × (self.known ≤ 16) }
-        ensures { (b : Bodies) → result ≡ faulty (fields_fault (scan_of self functions.now b) x) }
+        ensures { (b : Bodies) → said result ≡ fields_fault (scan_of self functions.now b) x }
     {
         let blank = (x.q == 0) & (x.r == 0);
         match x.kind {
@@ -96,9 +97,9 @@ impl Standing {
     }
 
     // The records of statements.
-    fn statement_fault(self, x: Record) -> Result<(), u32>
+    fn statement_fault(self, x: Record) -> Result<(), Reason>
         requires { (16 ≤ x.kind) × (x.kind ≤ 21) }
-        ensures { (f : Functions) (b : Bodies) → result ≡ faulty (fields_fault (scan_of self f b) x) }
+        ensures { (f : Functions) (b : Bodies) → said result ≡ fields_fault (scan_of self f b) x }
     {
         let blank = (x.q == 0) & (x.r == 0);
         match x.kind {
@@ -117,17 +118,17 @@ impl Standing {
     }
 
     // The record's fault, its lowest number.
-    #[tactic(auto, using(std::proofs::lemmas::Bool::Decides::nat_tests), unfolding(crate::specs::Ready::fault_but, crate::specs::Ready::faulty, tape::specs::Faults::more, tape::specs::Faults::due, tape::specs::Faults::unless, crate::specs::Standing::due_of, crate::specs::Standing::scan_of))]
-    pub(crate) fn fault(self, x: Record, functions: &Functions) -> Result<(), u32>
+    #[tactic(auto, using(std::proofs::lemmas::Bool::Decides::nat_tests), unfolding(crate::specs::Ready::fault_but, crate::specs::Ready::said, tape::specs::Faults::more, tape::specs::Faults::due, tape::specs::Faults::unless, crate::specs::Standing::due_of, crate::specs::Standing::scan_of))]
+    pub(crate) fn fault(self, x: Record, functions: &Functions) -> Result<(), Reason>
         requires { self.known ≤ 16 }
-        ensures { (b : Bodies) → result ≡ faulty (fault_but (scan_of self functions.now b) x) }
+        ensures { (b : Bodies) → said result ≡ fault_but (scan_of self functions.now b) x }
     {
         match (self.due, x.kind) {
             (Due::Program, 1) | (Due::Array, 2) | (Due::Function, 3) => declaration_fault(x),
             (Due::Body, 10..=15) => self.expression_fault(x, functions),
             (Due::Body, 16..=21) => self.statement_fault(x),
-            (Due::Nothing, _) => Err(26),
-            _ => Err(22),
+            (Due::Nothing, _) => Err(Reason::TapeExtra),
+            _ => Err(Reason::TapeKind),
         }
     }
 }

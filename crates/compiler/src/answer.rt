@@ -9,6 +9,7 @@ use crate::function::translate;
 use costing::measure;
 use translation::Tape;
 use word::Refusal;
+use word::reason::Reason;
 
 // The cost is counted first; no word is written before both limits are kept.
 pub fn write_out(table: &[u32], out: &mut [u32]) -> Result<Tape, Refusal>
@@ -17,10 +18,7 @@ pub fn write_out(table: &[u32], out: &mut [u32]) -> Result<Tape, Refusal>
     let mut depths = [0u32; 16];
     let tape = measure(table, &mut depths)?;
     if out.len() / 4 < tape.records {
-        return Err(Refusal {
-            number: 13,
-            place: tape.records,
-        });
+        return Err(Refusal::new(Reason::Output, tape.records));
     }
     translate(table, &depths, out);
     Ok(tape)

@@ -13,6 +13,7 @@ use scoping::passes::{note, program};
 use tape::held::{more, short};
 use translation::Tape;
 use word::Refusal;
+use word::reason::Reason;
 
 // Function f, with six records of its own and three steps; and what is kept of it for the later ones.
 #[tactic(auto, using(crate::proofs::Turns::function_end, crate::proofs::Turns::function_found), unfolding(crate::specs::Totals::body_at, crate::specs::Totals::keeping))]
@@ -61,7 +62,7 @@ fn functions(
     for f in 0..n {
         let next = function(table, known, depths, here, f);
         if LIMIT < next.steps {
-            return Err(here.at.refusal(12));
+            return Err(here.at.refusal(Reason::Cost));
         }
         here = next;
     }

@@ -41,7 +41,7 @@ pub(crate) fn call(program: &Program, stacks: &mut Stacks, g: Registers, f: u32)
 // RET leaves the value of its slot among the operands, and the machine off the tape or back in the caller.
 #[tactic(auto, using(crate::proofs::Rows::rows), unfolding(crate::specs::Flat::flat_by, crate::specs::Flat::pick))]
 pub(crate) fn finish(program: &Program, stacks: &mut Stacks, g: Registers, x: u32) -> Registers
-    requires { Small g × (g.operands < 2048) × (g.base + x < 1024) × (g.calls ≤ 16) }
+    requires { (g.steps < 2 ^ 63) × (g.operands < 2048) × (g.base + x < 1024) × (g.calls ≤ 16) }
     ensures { (m : List ℕ) → flat_of result stacks.new m
         ≡ flat_by program.now.tape.now program.now.places (ret x) (flat_of g stacks.old m) }
 {

@@ -14,6 +14,7 @@ use crate::registers::Registers;
 use crate::stacks::{Frame, Loop, Stacks};
 use crate::step::{is_free, step};
 use word::Refusal;
+use word::reason::Reason;
 
 // Whether the run goes on: it is on the tape, and the limit allows the record at hand or that counts nothing.
 #[tactic(auto, using(std::proofs::lemmas::Bool::Decides::nat_tests), unfolding(crate::specs::Flat::goes_on, crate::specs::Flat::pick))]
@@ -90,16 +91,10 @@ pub(crate) fn admit(
 {
     let program = Program::new(tape);
     if arguments.len() != record(tape, program.first).p as usize {
-        return Err(Refusal {
-            number: 31,
-            place: 0,
-        });
+        return Err(Refusal::new(Reason::Arguments, 0));
     }
     if memory.len() != program.bytes as usize {
-        return Err(Refusal {
-            number: 32,
-            place: 0,
-        });
+        return Err(Refusal::new(Reason::Memory, 0));
     }
     Ok(execute(&program, arguments, memory, limit))
 }

@@ -32,7 +32,7 @@ pub(crate) struct Stacks {
 
 impl Stacks {
     pub(crate) fn literal(&mut self, g: Registers, v: u32) -> Registers
-        requires { Small g × (g.operands < 2048) }
+        requires { (g.at < 2 ^ 32) × (g.operands < 2048) }
         ensures { (result ≡ free g (g.at + 1) (g.operands + 1) g.loops)
             × (self.new ≡ with_operands self.old (put_at self.old.operands g.operands v)) }
     {

@@ -9,6 +9,7 @@ use crate::leads::{due, expression_leads, statement_leads};
 use script::Env;
 use script::shape::{expressions_in, parts_in, statements_in};
 use word::reader::Reader;
+use word::reason::Reason;
 use word::{Record, Refusal};
 
 // How many IFs and FORs lie round a statement.
@@ -46,7 +47,7 @@ fn expression(table: &[u32], at: Reader, left: u32, env: &Env) -> Result<Reader,
     let (x, next) = due(table, at)?;
     expression_leads(x, at, env)?;
     if left == 0 {
-        return Err(at.refusal(7));
+        return Err(at.refusal(Reason::TooDeep));
     }
     let count = parts_in(x, &env.params);
     if count == 0 {
@@ -126,7 +127,7 @@ fn statement(
     let (x, next) = due(table, at)?;
     statement_leads(x, at, env)?;
     if !nests(left, round, x) {
-        return Err(at.refusal(7));
+        return Err(at.refusal(Reason::TooDeep));
     }
     let after = expressions(table, next, expressions_in(x), 16, env)?;
     let count = statements_in(x);

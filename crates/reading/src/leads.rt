@@ -10,23 +10,22 @@ ghost use Rattle.reading.specs.Structure.{due_of, leads};
 
 use script::Env;
 use word::reader::Reader;
+use word::reason::Reason;
 use word::{Record, Refusal};
 
 // The record that is due where the reader stands, with the reader past it. 3: the table ends early.
 pub fn due(table: &[u32], at: Reader) -> Result<(Record, Reader), Refusal>
     ensures { result ≡ due_of table.now (read_at table.now at.at) }
 {
-    at.next(table).ok_or(Refusal {
-        number: 3,
-        place: table.len() / 4,
-    })
+    at.next(table)
+        .ok_or(Refusal::new(Reason::TableEnds, table.len() / 4))
 }
 
 // 2: the record is of no kind that is due.
 fn not_due(at: Reader) -> Result<(), Refusal>
     ensures { result ≡ refuse 2 at.at }
 {
-    Err(at.refusal(2))
+    Err(at.refusal(Reason::TableKind))
 }
 
 // 4 where a word is not as it must be, 5 where a field is out of its range.
@@ -34,10 +33,10 @@ fn fields(at: Reader, blank: bool, range: bool) -> Result<(), Refusal>
     ensures { result ≡ cond blank (cond range (Ok tt) (refuse 5 at.at)) (refuse 4 at.at) }
 {
     if !blank {
-        return Err(at.refusal(4));
+        return Err(at.refusal(Reason::TableUnused));
     }
     if !range {
-        return Err(at.refusal(5));
+        return Err(at.refusal(Reason::TableRange));
     }
     Ok(())
 }

@@ -7,6 +7,7 @@ use crate::descent::{Nesting, statements};
 use crate::leads::{array_leads, due, function_leads, program_leads};
 use script::Env;
 use word::reader::Reader;
+use word::reason::Reason;
 use word::{Refusal, sized};
 
 const OUTERMOST: Nesting = Nesting { ifs: 0, fors: 0 };
@@ -68,14 +69,11 @@ pub fn structure(table: &[u32]) -> Result<(), Refusal>
     ensures { result ≡ structured table.now }
 {
     if !sized(4096, table.len()) {
-        return Err(Refusal {
-            number: 1,
-            place: 0,
-        });
+        return Err(Refusal::new(Reason::TableWords, 0));
     }
     let end = program(table)?;
     if end.at < table.len() / 4 {
-        return Err(end.refusal(6));
+        return Err(end.refusal(Reason::TableExtra));
     }
     Ok(())
 }

@@ -18,7 +18,7 @@ use Rattle.script.specs.Parse.{parsed, entered, read_table}
 use Rattle.script.specs.Written.{count_s, list_e, list_s, list_ss, list_funcs, depth_s, depth_ss, head_of, Inside, Insides, InFunc}
 use Rattle.script.specs.Stage.{or_else, Walked, goes, stops, after, onward, refuse_if, over_program}
 use Rattle.script.specs.Scope.{Names, settable, scope_e, declare, close, scope_s, scope_ss, parameters, scope_f}
-use Rattle.scoping.specs.Passes.{At, come, statements_of, closing, nested, walk, then_first}
+use Rattle.scoping.specs.Passes.{turn, At, come, statements_of, closing, nested, walk, then_first}
 use Rattle.scoping.specs.Scoped.{seen_of, names_of, declarable, own, declares, shown, closed_by, entering, scoping, parameters_of, scoped_func, scoped}
 use Rattle.script.specs.declared.Env.{Env}
 use Rattle.script.specs.Stage.{First}
@@ -79,18 +79,18 @@ scope_of a = λ y. seen_of a y
 
 module _ (t : List ℕ) (a : Slots) (at : ℕ) (x : Record) (rest : List Record) (h : Halts rest) where
   -- no expression
-  enter_none : from t (at + 1) ≡ rest → entering t a at x ≡ after (own a x at) (come (at + 1) (shown a x))
+  enter_none : from t (at + 1) ≡ rest → entering t a at (at + 1) x ≡ after (own a x at) (come (at + 1) (shown a x))
   unfolding entering onward
   enter_none is = rw (is, h a (at + 1)) refl
 
   enter_one : (e : Expr) → from t (at + 1) ≡ list_e e rest
-      → entering t a at x ≡ after (own a x at) (after (scope_e (scope_of a) (at + 1) e) (come (at + 1 + size_e e) (shown a x)))
+      → entering t a at (at + 1) x ≡ after (own a x at) (after (scope_e (scope_of a) (at + 1) e) (come (at + 1 + size_e e) (shown a x)))
   unfolding entering onward
   enter_one e is =
       rw (is, seek_expr e a (at + 1) rest, h a (at + 1 + size_e e)) (ap (after (own a x at)) (onward_after (scope_e (scope_of a) (at + 1) e) (goes (at + 1 + size_e e)) _))
 
   enter_two : (d e : Expr) → from t (at + 1) ≡ list_e d (list_e e rest)
-      → entering t a at x ≡ after (own a x at) (after (scope_e (scope_of a) (at + 1) d) (after (scope_e (scope_of a) (at + 1 + size_e d) e) (come (at + 1 + size_e d + size_e e) (shown a x))))
+      → entering t a at (at + 1) x ≡ after (own a x at) (after (scope_e (scope_of a) (at + 1) d) (after (scope_e (scope_of a) (at + 1 + size_e d) e) (come (at + 1 + size_e d + size_e e) (shown a x))))
   unfolding entering onward
   enter_two d e is =
       let first = scope_e (scope_of a) (at + 1) d in
@@ -122,7 +122,7 @@ module _ (t : List ℕ) (v : Env) (few : v.slots ≤ 32) where
   Goes end w r = Together (λ b. names_of b) end w r
 
   mutual
-    unfolding list_s size_s depth_s Inside count_s write_s scope_s names_of scoping statements_of nested own shown here onward after
+    unfolding list_s size_s depth_s Inside count_s write_s scope_s names_of scoping turn statements_of nested own shown here onward after
 
     stmt_goes : (s : Stmt) (left at : ℕ) (a : Slots) (rest : List Record) → from t at ≡ list_s s rest → depth_s s ≤ left → Inside v s → Halts rest
         → Goes (at + size_s s) (walk (scoping t) t left at a) (scope_s (names_of a) at s)

@@ -4,6 +4,7 @@ use native.Mathlib.Omega.{arith}
 use mathlib.Core.Path.{◌≡◌, refl, sym, ap, ◌∙◌}
 use mathlib.Core.List.{List}
 use Rattle.word.specs.Reader.{read_at}
+use Rattle.word.proofs.Walk.{read_found}
 use Rattle.word.specs.declared.Record.{Record}
 use Rattle.word.specs.declared.Refusal.{Refusal}
 use Rattle.word.specs.declared.reader.Reader.{Reader}
@@ -14,7 +15,7 @@ use Rattle.script.specs.Stage.{clean, Walked, goes, stops, onward}
 use Rattle.script.specs.Stage.{First}
 use Rattle.script.specs.Table.{read_s}
 use Rattle.script.specs.Shape.{statements_in}
-use Rattle.scoping.specs.Passes.{At, come, answered, statements_of, Turn, closing, nested, enter_by, walk, Over, then_first, func_at, funcs_from}
+use Rattle.scoping.specs.Passes.{At, come, answered, statements_of, Turn, turn, closing, nested, enter_by, walk, Over, then_first, func_at, funcs_from}
 
 -- how many statements a record is followed by
 pub statements_are : (x : Record) → statements_in (read_s x) ≡ statements_of x
@@ -76,11 +77,18 @@ pub turns_stop : {A : Type 0} (f : ℕ → A → Answer A) (leave : A → A) (n 
     → turns f leave (n - k) s ≡ Err r
 turns_stop f leave n k s r h e = turns_more f leave n k s h ∙ rw e refl
 
-pub walk_parts : {A : Type 0} (T : Turn A) (t : List ℕ) (at : ℕ) (a : A) (left : ℕ) (x : Record) (m : Reader) → 0 < left → read_at t at ≡ Some (x, m)
-    → answered (walk T t left at a) ≡ (answered (T.enter a at x) >>= turns (λ i b. answered (walk T t (left - 1) i b)) (T.leave x.kind a) (statements_in (read_s x)))
-walk_parts T t at a left x m some e =
-    ap answered (walk_found T t at a left x m some e) ∙ nested_turns (walk T t (left - 1)) (T.leave x.kind a) (statements_of x) (T.enter a at x)
-    ∙ ap (λ (n : ℕ). answered (T.enter a at x) >>= turns (λ i b. answered (walk T t (left - 1) i b)) (T.leave x.kind a) n) (sym (statements_are x))
+-- a statement by its record and where its expressions begin
+pub walk_parts : {A : Type 0} (enter : A → ℕ → ℕ → Record → Walked (At A)) (leave : ℕ → A → A → A) (t : List ℕ) (at : ℕ) (a : A) (left : ℕ) (x : Record) (m : Reader) → 0 < left
+    → read_at t at ≡ Some (x, m)
+    → answered (walk (turn enter leave) t left at a)
+    ≡ (answered (enter a at m.at x) >>= turns (λ i b. answered (walk (turn enter leave) t (left - 1) i b)) (leave x.kind a) (statements_in (read_s x)))
+unfolding turn
+walk_parts enter leave t at a left x m some e =
+    let T = turn enter leave in
+    let rest = λ (n : ℕ). turns (λ i b. answered (walk T t (left - 1) i b)) (leave x.kind a) n in
+    ap answered (walk_found T t at a left x m some e) ∙ nested_turns (walk T t (left - 1)) (leave x.kind a) (statements_of x) (enter a at (at + 1) x)
+    ∙ ap (λ (n : ℕ). answered (enter a at (at + 1) x) >>= rest n) (sym (statements_are x))
+    ∙ ap (λ (i : ℕ). answered (enter a at i x) >>= rest (statements_in (read_s x))) (sym (read_found t at x m e).2)
 
 -- ---- the functions, in the code's turns
 module _ {M : Type 0} (O : Over M) (t : List ℕ) (at : ℕ) (m : M) (n k : ℕ) where

@@ -67,8 +67,9 @@ pub record Turn (A : Type 0) : Type 0 where
   -- after a statement within one of this kind: by what was carried before the one and after the other
   pub leave : ℕ → A → A → A
 
-abbrev pub turn : {A : Type 0} → (A → ℕ → Record → Walked (At A)) → (ℕ → A → A → A) → Turn A
-turn enter leave = record { enter = enter; leave = leave }
+-- of a stage that is told too where the record's expressions begin: one further on
+unfoldable pub turn : {A : Type 0} → (A → ℕ → ℕ → Record → Walked (At A)) → (ℕ → A → A → A) → Turn A
+turn enter leave = record { enter = λ a at. enter a at (at + 1); leave = leave }
 
 unfoldable pub closing : {A : Type 0} → (A → A) → Walked (At A) → Walked (At A)
 closing g (goes b) = come b.at (g b.state)

@@ -58,8 +58,8 @@ shown a x = cond (eqb x.kind 32) (declares a x.p false) (cond (eqb x.kind 35) (d
 unfoldable pub closed_by : ℕ → Slots → Slots → Slots
 closed_by kind a b = cond (eqb kind 31) b (record { defined = a.defined; fixed = a.fixed; declared = b.declared })
 
-unfoldable pub entering : List ℕ → Slots → ℕ → Record → Walked (At Slots)
-entering t a at x = after (own a x at) (onward (seek a (at + 1) (drop (at + 1) (records_of t))) (λ e. come e (shown a x)))
+unfoldable pub entering : List ℕ → Slots → ℕ → ℕ → Record → Walked (At Slots)
+entering t a at next x = after (own a x at) (onward (seek a next (drop next (records_of t))) (λ e. come e (shown a x)))
 
 unfoldable pub scoping : List ℕ → Turn Slots
 scoping t = turn (entering t) closed_by

@@ -12,6 +12,7 @@ ghost use Rattle.scoping.specs.Scoped.{seen_of, hides, seek, declarable, own, de
 use crate::passes::program;
 use crate::walk::{Stage, statement};
 use word::reader::Reader;
+use word::reason::Reason;
 use word::sets::{below, has, put};
 use word::{Record, Refusal};
 
@@ -52,7 +53,7 @@ impl Slots {
         ensures { result ≡ declarable (has self.declared x) at.at }
     {
         if has(self.declared, x) {
-            return Err(at.refusal(8));
+            return Err(at.refusal(Reason::Scope));
         }
         Ok(())
     }
@@ -65,9 +66,9 @@ impl Slots {
             return Ok(());
         }
         if has(self.fixed, x) {
-            return Err(at.refusal(9));
+            return Err(at.refusal(Reason::Fixed));
         }
-        Err(at.refusal(8))
+        Err(at.refusal(Reason::Scope))
     }
 
     // The fault of a statement's record by itself, which comes before its expressions'.
@@ -117,7 +118,7 @@ fn expressions(table: &[u32], start: Reader, slots: Slots) -> Result<Reader, Ref
         match kind {
             20..=28 => {
                 if slots.hides(x) {
-                    return Err(at.refusal(8));
+                    return Err(at.refusal(Reason::Scope));
                 }
             }
             _ => {

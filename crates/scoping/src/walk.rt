@@ -15,11 +15,11 @@ pub trait Stage {
 
     // Of a table: a statement's record and its expressions; and after a statement within one of a kind, by what was carried before the one and after the
     // other, what is carried on.
-    ghost enters: { Self → List ℕ → Self.State → ℕ → Record → Walked (At Self.State) };
+    ghost enters: { Self → List ℕ → Self.State → ℕ → ℕ → Record → Walked (At Self.State) };
 
     ghost closes: { ℕ → Self.State → Self.State → Self.State };
 
-    // A statement's record, which the cursor stands at, and its expressions: the cursor past them.
+    // A statement's record, which the cursor stands at, and its expressions, which begin at the next one: the cursor past them.
     fn enter(
         &self,
         table: &[u32],
@@ -28,8 +28,7 @@ pub trait Stage {
         next: Reader,
         state: Self::State,
     ) -> Result<(Reader, Self::State), Refusal>
-        requires { next.at ≡ at.at + 1 }
-        ensures { result ≡ answered (enters self.now table.now state at.at x) };
+        ensures { result ≡ answered (enters self.now table.now state at.at next.at x) };
 
     fn leave(&self, kind: u32, outside: Self::State, inside: Self::State) -> Self::State
         ensures { result ≡ closes kind outside inside };

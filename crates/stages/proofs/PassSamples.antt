@@ -10,18 +10,18 @@ use Rattle.word.specs.declared.Record.{Record}
 use Rattle.script.specs.Stage.{clean, fault, or_else, after, onward}
 use Rattle.script.specs.Scope.{settable}
 use Rattle.script.specs.Types.{require}
-use Rattle.scoping.specs.Passes.{heading_of, heading, params_of, noted, arity_of, expressions_of, statements_of, closing, nested, enter_by, walk, then_first, func_at, funcs_from, staged}
+use Rattle.scoping.specs.Passes.{turn, heading_of, heading, params_of, noted, arity_of, expressions_of, statements_of, closing, nested, enter_by, walk, then_first, func_at, funcs_from, staged}
 use Rattle.scoping.specs.Scoped.{seen_of, hides, seek_at, seek, declarable, own, declares, shown, closed_by, entering, scoping, parameters_of, scoped_func, scoped}
 use Rattle.stages.specs.Typed.{no_parts, with_part, gather, code_type, code_fits, type_by, fits_by, judged, untyped, typed_by, typed_at, suits_by, settled, judged_s, typing_at, typing, typed_func, typed}
 use Rattle.stages.specs.Stored.{met, store_at, storing, stored}
 
 -- everything that computes there, by one name for each stage
 scope_computes : ℕ
-unfolding words_of records_of here has toggle turned put below read_at found_if or_else after onward settable heading_of heading statements_of closing nested enter_by walk then_first func_at funcs_from staged seen_of hides seek_at seek declarable own declares shown closed_by entering scoping parameters_of scoped_func scoped
+unfolding words_of records_of here has toggle turned put below read_at found_if or_else after onward settable heading_of heading statements_of closing nested enter_by turn walk then_first func_at funcs_from staged seen_of hides seek_at seek declarable own declares shown closed_by entering scoping parameters_of scoped_func scoped
 scope_computes = 0
 
 type_computes : ℕ
-unfolding words_of records_of here has toggle turned put read_at found_if or_else after onward require heading_of heading params_of noted arity_of expressions_of statements_of closing nested enter_by walk then_first func_at funcs_from staged no_parts with_part gather code_type code_fits type_by fits_by judged untyped typed_by typed_at suits_by settled judged_s typing_at typing typed_func typed
+unfolding words_of records_of here has toggle turned put read_at found_if or_else after onward require heading_of heading params_of noted arity_of expressions_of statements_of closing nested enter_by turn walk then_first func_at funcs_from staged no_parts with_part gather code_type code_fits type_by fits_by judged untyped typed_by typed_at suits_by settled judged_s typing_at typing typed_func typed
 type_computes = 0
 
 store_computes : ℕ

@@ -21,7 +21,7 @@ use Rattle.script.specs.Parse.{parsed, entered, passed, read_table}
 use Rattle.script.specs.Written.{count_s, list_e, list_s, list_ss, list_funcs, depth_s, depth_ss, head_of, InS, Inside, Insides, InFunc}
 use Rattle.script.specs.Stage.{or_else, Walked, goes, after, onward, over_program, stops}
 use Rattle.script.specs.Types.{Types, ty, numeric, require, type_e, suits, type_s, type_ss, numbers, type_f}
-use Rattle.scoping.specs.Passes.{At, come, closing, noted, expressions_of, statements_of, nested, walk, then_first}
+use Rattle.scoping.specs.Passes.{turn, At, come, closing, noted, expressions_of, statements_of, nested, walk, then_first}
 use Rattle.stages.specs.Typed.{ty_of, is_boolean, types_of, no_parts, with_part, gather, suits_by, settled, judged_s, typed_at, typing, Known, typed_func, nobody, typed, typing_at, kept}
 use Rattle.script.specs.declared.Env.{Env}
 use Rattle.script.specs.Stage.{First}
@@ -67,11 +67,11 @@ module _ (t params : List ℕ) (v : Env) (few : v.slots ≤ 32) (sized : length 
   one_typed slots at e rest is i = expr_typed t params slots v sized known e 16 at rest is i.1 i.0
 
   enters_kept : (slots : ℕ) (x : Record) (left at : ℕ) {rest : List Record} → from t at ≡ x ∷ rest → 1 ≤ left
-      → (walk (typing t params) t left at slots ≡ nested (walk (typing t params) t (left - 1)) (λ z. z) (statements_of x) (typing_at t params slots at x)) × (from t (at + 1) ≡ rest)
-  unfolding typing
+      → (walk (typing t params) t left at slots ≡ nested (walk (typing t params) t (left - 1)) (λ z. z) (statements_of x) (typing_at t params slots at (at + 1) x)) × (from t (at + 1) ≡ rest)
+  unfolding typing turn
   enters_kept slots x left at is some =
       let (w, on) = enters (typing t params) t slots x left at is some in
-      (w ∙ ap (λ (g : Walked (At ℕ) → Walked (At ℕ)). nested (walk (typing t params) t (left - 1)) g (statements_of x) (typing_at t params slots at x)) (fun_ext λ u. closing_kept x.kind slots u), on)
+      (w ∙ ap (λ (g : Walked (At ℕ) → Walked (At ℕ)). nested (walk (typing t params) t (left - 1)) g (statements_of x) (typing_at t params slots at (at + 1) x)) (fun_ext λ u. closing_kept x.kind slots u), on)
 
   mutual
     unfolding list_s size_s depth_s Inside count_s write_s type_s suits numeric types_of typing_at statements_of expressions_of nested gather judged_s suits_by settled no_parts with_part or_else onward after require

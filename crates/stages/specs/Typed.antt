@@ -107,8 +107,8 @@ settled slots x lead = cond (eqb x.kind 32) (put slots x.p lead) slots
 unfoldable pub judged_s : ℕ → Record → ℕ → Parts → Walked (At ℕ)
 judged_s slots x at z = after (require (suits_by slots x z) at) (after z.first (come z.next.at (settled slots x (leading z))))
 
-unfoldable pub typing_at : List ℕ → List ℕ → ℕ → ℕ → Record → Walked (At ℕ)
-typing_at t params slots at x = judged_s slots x at (gather (typed_at t params slots 16) (expressions_of x.kind) (no_parts (at + 1)))
+unfoldable pub typing_at : List ℕ → List ℕ → ℕ → ℕ → ℕ → Record → Walked (At ℕ)
+typing_at t params slots at next x = judged_s slots x at (gather (typed_at t params slots 16) (expressions_of x.kind) (no_parts next))
 
 -- a slot is declared once, so nothing is taken back
 abbrev pub kept : ℕ → ℕ → ℕ → ℕ

@@ -7,6 +7,7 @@ ghost use Rattle.stages.specs.Stored.{storing, stored};
 use scoping::passes::program;
 use word::Refusal;
 use word::reader::Reader;
+use word::reason::Reason;
 
 // As many functions are left at the exposed one, the last: itself.
 const EXPOSED: u32 = 1;
@@ -21,7 +22,7 @@ fn first_store(table: &[u32], start: Reader, functions: u32) -> Result<(), Refus
         let kind = x.kind;
         match kind {
             34 => {
-                return Err(at.refusal(11));
+                return Err(at.refusal(Reason::Store));
             }
             3 => {
                 if left <= EXPOSED {

@@ -11,6 +11,7 @@ use crate::codes::{code_fits, code_type};
 use scoping::passes::{arity, expressions, note, program};
 use scoping::walk::{Stage, statement};
 use word::reader::Reader;
+use word::reason::Reason;
 use word::sets::{has, put};
 use word::{Record, Refusal};
 
@@ -95,7 +96,7 @@ fn require(met: bool, at: Reader) -> Result<(), Refusal>
     ensures { result ≡ require met at.at }
 {
     if !met {
-        return Err(at.refusal(10));
+        return Err(at.refusal(Reason::Mistyped));
     }
     Ok(())
 }

@@ -6,4 +6,5 @@ pub mod Records
 pub mod Walk
 pub mod Members
 pub mod Refused
+pub mod Reasons
 pub mod Computes

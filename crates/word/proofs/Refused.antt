@@ -1,5 +1,5 @@
 -- A refusal is its number and its place. Assumes nothing.
-use Rattle.std.specs.Prelude.{◌≡◌, ℕ, Result, Ok, Err}
+use Rattle.std.specs.Prelude.{◌≡◌, ℕ, Err}
 use Rattle.std.proofs.Common.{ap}
 use Rattle.word.specs.Refusals.{OrRefused, refuse}
 use Rattle.word.specs.declared.Refusal.{Refusal}

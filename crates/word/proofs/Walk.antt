@@ -1,6 +1,6 @@
 -- The records of a list of words, one after another: at a record that is there, it and those after it; past the last one, none. Assumes nothing.
 use Rattle.std.proofs.Common.{◌≡◌, ℕ, ◌+◌, ◌<◌, ◌≤◌, Bool, true, false, ltb, List, [], ◌∷◌, drop, sym, refl, ap, add-one, arith, drop_of_length-le, ltb-false, ltb-true}
-use Rattle.std.specs.Prelude.{Option, Some, None}
+use Rattle.std.specs.Prelude.{Some, None}
 use Rattle.word.specs.Records.{records, record_at, records_of}
 use Rattle.word.proofs.Records.{records_length, records_from}
 use Rattle.word.specs.Reader.{found_if, read_at}

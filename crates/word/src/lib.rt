@@ -2,10 +2,15 @@
 #![tactic(auto)]
 
 ghost use Rattle.std.specs.Prelude.{◌≡◌};
+ghost use Rattle.word.specs.Reasons.{number_of};
 ghost use Rattle.word.specs.Records.{sized};
+ghost use Rattle.word.specs.Refusals.{refusal};
+
+use reason::Reason;
 
 pub mod operators;
 pub mod reader;
+pub mod reason;
 pub mod sets;
 
 // Four words to a record.
@@ -22,6 +27,17 @@ pub struct Record {
 pub struct Refusal {
     pub number: u32,
     pub place: usize,
+}
+
+impl Refusal {
+    pub fn new(reason: Reason, place: usize) -> Self
+        ensures { result ≡ refusal (number_of reason) place }
+    {
+        Refusal {
+            number: u32::from(reason),
+            place,
+        }
+    }
 }
 
 // Whether so many words are whole records, one at least and so many at most.

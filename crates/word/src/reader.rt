@@ -1,8 +1,10 @@
 // The reader: a cursor that moves over a list of words by whole records and hands itself back.
 ghost use Rattle.std.specs.Prelude.{◌≡◌};
 ghost use Rattle.word.specs.Reader.{read_at};
+ghost use Rattle.word.specs.Reasons.{number_of};
 ghost use Rattle.word.specs.Refusals.{refusal};
 
+use crate::reason::Reason;
 use crate::{Record, Refusal};
 
 // The record that it stands at.
@@ -38,13 +40,10 @@ impl Reader {
         }
     }
 
-    // With this number, at the record that it stands at.
-    pub fn refusal(self, number: u32) -> Refusal
-        ensures { result ≡ refusal number self.at }
+    // For this reason, at the record that it stands at.
+    pub fn refusal(self, reason: Reason) -> Refusal
+        ensures { result ≡ refusal (number_of reason) self.at }
     {
-        Refusal {
-            number,
-            place: self.at,
-        }
+        Refusal::new(reason, self.at)
     }
 }

@@ -7,8 +7,8 @@ use Rattle.word.specs.Slots.{hidden}
 use Rattle.tape.specs.Faults.{more, fault}
 use Rattle.tape.specs.Check.{at_end}
 use Rattle.checker.specs.Standing.{due_of, rank, seen_of, shown_by, scan_of}
-use Rattle.checker.specs.Ready.{faulty}
-use Rattle.checker.proofs.Clear.{faulty_ok}
+use Rattle.checker.specs.Ready.{said}
+use Rattle.checker.proofs.Clear.{said_ok}
 use Rattle.checker.proofs.Scanned.{stands_first, stands_on}
 use Rattle.checker.proofs.Ways.{known_room, room_of, body_room, scan_ends, is_there, fault_stops, searched, further, barred, refused, allowed, slot_stops}
 use Rattle.checker.proofs.check.scan.Goals as goal
@@ -38,7 +38,7 @@ unfolding seen_of
 clear c =
     let shows : 0 < c.bodies.d → shown_by c.scan.bodies c.bodies.d c.in-Some.x.p ≡ hidden → ⊥ =
     λ some e. elim c.bodies-test.branch [ else-bodies-test w ↦ omega (arith, some, w.bodies-test.false) | then-bodies-test+else-lt+then-ne w ↦ let none : seen_of w.shown-shown.result ≡ hidden = w.shown-shown.ensures ∙ e in absurd (search rules) ] in
-    let q = searched (c.fault-found.ensures _) (sym c.is_err.ensures.value ∙ c.if-is_err.false) c.most-most.ensures c.searched-d.ensures c.bodies.invariant.2 in
+    let q = searched _ (c.fault-found.ensures _) (sym c.is_err.ensures.value ∙ c.if-is_err.false) c.most-most.ensures c.searched-d.ensures c.bodies.invariant.2 in
     allowed q _ (ap rank (c.visible.ensures shows)) (sym c.outside.ensures ∙ c.if-outside.false)
 
 pub advance-s-requires : goal.advance-s-requires
@@ -53,7 +53,7 @@ pub scan-preserved : goal.scan-preserved
 scan-preserved c =
     let here = c.scan.invariant.1 in
     let there = is_there here c.in-Some.ensures in
-    let none = faulty_ok _ _ (c.fault-found.ensures c.scan.bodies) (sym c.is_err.ensures.value ∙ c.if-is_err.false) in
+    let none = said_ok _ (sym c.is_err.ensures.value ∙ c.if-is_err.false) in
     let on = stands_on c.args.tape.now c.scan.s c.scan.functions c.scan.bodies c.scan.at.at here c.in-Some.x there.0 there.1 c.advance-s.result c.advance-s.new.functions c.advance-s.new.bodies (clear (goal.at.scan-preserved c).Else-outside) c.advance-s.ensures in
     (c.bodies.invariant.1 ∙ none, rw there.2 on)
 
@@ -61,22 +61,21 @@ pub answer-requires : goal.answer-requires
 answer-requires c = (known_room c.scan.invariant.1, room_of c.scan.invariant.1)
 
 pub returns : goal.returns
-unfolding faulty rank seen_of
+unfolding said rank seen_of
 returns c =
     let here = c.scan.invariant.1 in
     let rest = at_end (more (due_of c.scan.s.due)) (scan_of c.scan.s c.scan.functions c.scan.bodies) c.scan.at.at in
     elim c.match-next.branch [
       | in-Some+then-is_err w ↦
-          c.answer.ensures _ c.scan.bodies (w.found-is ∙ w.fault-found.ensures c.scan.bodies)
-          ∙ fault_stops here w.in-Some.ensures rest (w.fault-found.ensures c.scan.bodies) (sym w.is_err.ensures.value ∙ w.if-is_err.true)
+          c.answer.ensures c.scan.bodies ∙ rw w.found-is (fault_stops here w.in-Some.ensures rest _ (w.fault-found.ensures c.scan.bodies) (sym w.is_err.ensures.value ∙ w.if-is_err.true))
       | in-Some+else-is_err+then-bodies-test+then-lt w ↦
-          let q = searched (w.fault-found.ensures _) (sym w.is_err.ensures.value ∙ w.if-is_err.false) w.most-most.ensures w.searched-d.ensures w.bodies.invariant.2 in
+          let q = searched _ (w.fault-found.ensures _) (sym w.is_err.ensures.value ∙ w.if-is_err.false) w.most-most.ensures w.searched-d.ensures w.bodies.invariant.2 in
           let over : rank (seen_of w.most-most.result) < rank (seen_of w.shown-shown.result) = search rules in
-          c.answer.ensures 29 c.scan.bodies w.found-is ∙ slot_stops here w.in-Some.ensures rest (barred q w.bodies-test.true (rw (sym w.shown-shown.ensures) over))
+          c.answer.ensures c.scan.bodies ∙ rw (ap said w.found-is) (slot_stops here w.in-Some.ensures rest (barred q w.bodies-test.true (rw (sym w.shown-shown.ensures) over)))
       | in-Some+else-is_err+then-outside w ↦
           let shows : 0 < w.bodies.d → shown_by c.scan.bodies w.bodies.d w.in-Some.x.p ≡ hidden → ⊥ =
           λ some e. elim w.bodies-test.branch [ else-bodies-test w' ↦ omega (arith, some, w'.bodies-test.false) | then-bodies-test+else-lt+then-ne w' ↦ let none : seen_of w'.shown-shown.result ≡ hidden = w'.shown-shown.ensures ∙ e in absurd (search rules) ] in
-          let q = searched (w.fault-found.ensures _) (sym w.is_err.ensures.value ∙ w.if-is_err.false) w.most-most.ensures w.searched-d.ensures w.bodies.invariant.2 in
-          c.answer.ensures 29 c.scan.bodies w.found-is ∙ slot_stops here w.in-Some.ensures rest (refused q _ (ap rank (w.visible.ensures shows)) (sym w.outside.ensures ∙ w.if-outside.true))
-      | in_default w ↦ c.answer.ensures 0 c.scan.bodies (w.found-is ∙ c.scan.invariant.0) ∙ scan_ends here (sym w.in_default.is ∙ c.next.ensures)
+          let q = searched _ (w.fault-found.ensures _) (sym w.is_err.ensures.value ∙ w.if-is_err.false) w.most-most.ensures w.searched-d.ensures w.bodies.invariant.2 in
+          c.answer.ensures c.scan.bodies ∙ rw (ap said w.found-is) (slot_stops here w.in-Some.ensures rest (refused q _ (ap rank (w.visible.ensures shows)) (sym w.outside.ensures ∙ w.if-outside.true)))
+      | in_default w ↦ c.answer.ensures c.scan.bodies ∙ rw (ap said (w.found-is ∙ c.scan.invariant.0)) (scan_ends here (sym w.in_default.is ∙ c.next.ensures))
     ]

@@ -23,7 +23,8 @@ pub returns-then-out-tape : goal.returns-then-out-tape
 returns-then-out-tape c =
     let a = c.args in
     λ p i e.
-    sym (answers_13 a.table.now a.out.now _ (sym (ap (λ (o : Outcome). o.cost) c.in_ok-tape.ensures)) (omega (arith, c.if-out-tape.true)))
+    ap (λ (r : Refusal). answered (Err r) a.out.now) c.new.ensures
+    ∙ sym (answers_13 a.table.now a.out.now _ (sym (ap (λ (o : Outcome). o.cost) c.in_ok-tape.ensures)) (omega (arith, c.if-out-tape.true)))
     ∙ written_is a.table.now (words_of a.table.now (λ k. omega (arith, c.type_inv.table k))) p i e a.out.now
 
 pub returns : goal.returns

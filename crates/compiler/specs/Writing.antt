@@ -1,6 +1,6 @@
 -- The walk over a whole table that writes its translation: the functions one after another, with what is kept of each; and the answer, by the cost (12, 13) that was
 -- counted before. Assumes nothing: these are definitions.
-use Rattle.std.specs.Prelude.{ℕ, zero, suc, ◌+◌, ◌*◌, ◌≤◌, min, Bool, true, false, List, length, get_or, replicate, set as keep, leb}
+use Rattle.std.specs.Prelude.{ℕ, zero, suc, ◌+◌, ◌*◌, min, Bool, true, false, List, length, get_or, replicate, set as keep, leb}
 use Rattle.word.specs.Value.{TRUE, FALSE}
 use Rattle.word.specs.Reader.{read_at}
 use Rattle.word.specs.declared.Record.{Record}
@@ -15,14 +15,9 @@ use Rattle.translation.specs.Compile.{Result}
 use Rattle.emitting.specs.Emitting.{Sheet, place, puts}
 use Rattle.emitting.specs.Walking.{Desk, desk, on, times, walk_s}
 use Rattle.translation.specs.Compile.{Compiled}
-use Rattle.compiler.specs.declared.masks.Place.{Place}
 use Rattle.std.specs.Prelude.{Ok, Err}
 use Rattle.word.specs.Refusals.{refuse}
 use Rattle.translation.specs.declared.Tape.{Tape}
-
--- where a statement stands: a function has 32 slots at most, and IFs lie 16 deep at most
-abbrev pub Small : Place → Type 0
-Small p = (p.slots ≤ 32) × (p.ifs ≤ 16)
 
 abbrev pub blank : List ℕ → Sheet
 blank out = record { words = out; at = 0 }

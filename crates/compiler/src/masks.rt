@@ -4,7 +4,6 @@
 ghost use Rattle.std.specs.Prelude.{◌≡◌, ◌≤◌, ◌+◌};
 ghost use Rattle.translation.specs.Translate.{layout, context, masking};
 ghost use Rattle.emitting.specs.Emitting.{sheet, lay_e, masks, merges, assigns, stores, gives, flips};
-ghost use Rattle.compiler.specs.Writing.{Small};
 
 use emitting::emitter::Emitter;
 use tape::instruction::Instruction::{Bin, Get, Lit, Not, Put, Set, Var};
@@ -21,6 +20,7 @@ const OR: u32 = 7;
 pub(crate) struct Place {
     pub slots: u32,
     pub ifs: u32,
+    ghost small: { (slots ≤ 32) × (ifs ≤ 16) },
 }
 
 impl Place {
@@ -31,7 +31,6 @@ impl Place {
     }
 
     fn rnset(self) -> u32
-        requires { Small self }
         ensures { result ≡ (layout self.slots).rnset }
     {
         self.slots + 1
@@ -39,7 +38,6 @@ impl Place {
 
     // The condition of an IF that stands here.
     pub fn condition(self) -> u32
-        requires { Small self }
         ensures { result ≡ (layout self.slots).condition self.ifs }
     {
         self.slots + 2 + self.ifs
@@ -48,15 +46,14 @@ impl Place {
 
 // C: LIT TRUE, and within each IF its condition `&` the context round it.
 pub(crate) fn context(out: &mut [u32], to: Emitter, place: Place) -> Emitter
-    requires { Small place }
     ensures { sheet out.new result ≡ lay_e (context (layout place.slots) place.ifs) (sheet out.old to) }
 {
     if place.ifs == 0 {
         return to.put(out, Lit(TRUE));
     }
     let round = Place {
+        slots: place.slots,
         ifs: place.ifs - 1,
-        ..place
     };
     let condition = to.put(out, Var(round.condition()));
     context(out, condition, round).put(out, Bin(AND))
@@ -64,7 +61,6 @@ pub(crate) fn context(out: &mut [u32], to: Emitter, place: Place) -> Emitter
 
 // M: C `&` rnset.
 fn mask(out: &mut [u32], to: Emitter, place: Place) -> Emitter
-    requires { Small place }
     ensures { sheet out.new result ≡ lay_e (masking (layout place.slots) place.ifs) (sheet out.old to) }
 {
     let c = context(out, to, place);
@@ -74,7 +70,6 @@ fn mask(out: &mut [u32], to: Emitter, place: Place) -> Emitter
 
 // A new value `&` M.
 pub(crate) fn masked(out: &mut [u32], to: Emitter, place: Place) -> Emitter
-    requires { Small place }
     ensures { sheet out.new result ≡ masks (layout place.slots) place.ifs (sheet out.old to) }
 {
     let m = mask(out, to, place);
@@ -83,7 +78,6 @@ pub(crate) fn masked(out: &mut [u32], to: Emitter, place: Place) -> Emitter
 
 // `|` the old value, where M is FALSE.
 pub(crate) fn merged(out: &mut [u32], to: Emitter, place: Place) -> Emitter
-    requires { Small place }
     ensures { sheet out.new result ≡ merges (layout place.slots) place.ifs (sheet out.old to) }
 {
     let m = mask(out, to, place);
@@ -94,7 +88,6 @@ pub(crate) fn merged(out: &mut [u32], to: Emitter, place: Place) -> Emitter
 
 // SET x, behind the expression.
 pub(crate) fn assign(out: &mut [u32], to: Emitter, place: Place, x: u32) -> Emitter
-    requires { Small place }
     ensures { sheet out.new result ≡ assigns (layout place.slots) place.ifs x (sheet out.old to) }
 {
     let value = masked(out, to, place);
@@ -105,7 +98,6 @@ pub(crate) fn assign(out: &mut [u32], to: Emitter, place: Place, x: u32) -> Emit
 
 // PUT a, behind the masked value and the index, which was written a second time.
 pub(crate) fn store_at(out: &mut [u32], to: Emitter, place: Place, a: u32) -> Emitter
-    requires { Small place }
     ensures { sheet out.new result ≡ stores (layout place.slots) place.ifs a (sheet out.old to) }
 {
     let old = to.put(out, Get(a));
@@ -115,7 +107,6 @@ pub(crate) fn store_at(out: &mut [u32], to: Emitter, place: Place, a: u32) -> Em
 
 // RETURN, behind the expression: rval, and rnset.
 pub(crate) fn give(out: &mut [u32], to: Emitter, place: Place) -> Emitter
-    requires { Small place }
     ensures { sheet out.new result ≡ gives (layout place.slots) place.ifs (sheet out.old to) }
 {
     let value = masked(out, to, place);
@@ -131,7 +122,6 @@ pub(crate) fn give(out: &mut [u32], to: Emitter, place: Place) -> Emitter
 
 // Between the branches of an IF its condition becomes its `~`.
 pub(crate) fn flip(out: &mut [u32], to: Emitter, place: Place) -> Emitter
-    requires { Small place }
     ensures { sheet out.new result ≡ flips (layout place.slots) place.ifs (sheet out.old to) }
 {
     let x = place.condition();

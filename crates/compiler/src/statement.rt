@@ -5,7 +5,6 @@ ghost use Rattle.tape.specs.Instruction.{def};
 ghost use Rattle.translation.specs.Translate.{layout};
 ghost use Rattle.emitting.specs.Emitting.{puts, assigns, gives, flips};
 ghost use Rattle.emitting.specs.Walking.{Desk, on, desk_of, walk_e, head_s, walk_s, putting};
-ghost use Rattle.compiler.specs.Writing.{Small};
 
 use crate::masks::{Place, assign, flip, give, masked, store_at};
 use emitting::expression::expression;
@@ -24,7 +23,6 @@ fn define(source: Source, out: &mut [u32], from: Walk, x: u32) -> Walk
 
 // SET x e.
 fn set(source: Source, out: &mut [u32], from: Walk, place: Place, x: u32) -> Walk
-    requires { Small place }
     ensures { desk_of out.new result ≡ on (assigns (layout place.slots) place.ifs x) (walk_e source.entry.params.now source.entry.table.now 16 (desk_of out.old from)) }
 {
     let e = expression(source, out, from, 16);
@@ -34,7 +32,6 @@ fn set(source: Source, out: &mut [u32], from: Walk, place: Place, x: u32) -> Wal
 // PUT a i e: the index is written twice.
 #[tactic(auto, unfolding(emitting::specs::Walking::putting))]
 fn put(source: Source, out: &mut [u32], from: Walk, place: Place, a: u32) -> Walk
-    requires { Small place }
     ensures { desk_of out.new result ≡ putting source.entry.params.now source.entry.table.now (layout place.slots) place.ifs a (desk_of out.old from) }
 {
     let i = expression(source, out, from, 16);
@@ -46,7 +43,6 @@ fn put(source: Source, out: &mut [u32], from: Walk, place: Place, a: u32) -> Wal
 
 // RETURN e.
 fn give_back(source: Source, out: &mut [u32], from: Walk, place: Place) -> Walk
-    requires { Small place }
     ensures { desk_of out.new result ≡ on (gives (layout place.slots) place.ifs) (walk_e source.entry.params.now source.entry.table.now 16 (desk_of out.old from)) }
 {
     let e = expression(source, out, from, 16);
@@ -55,7 +51,6 @@ fn give_back(source: Source, out: &mut [u32], from: Walk, place: Place) -> Walk
 
 // Between IF's branches.
 fn flipped(out: &mut [u32], from: Walk, place: Place) -> Walk
-    requires { Small place }
     ensures { desk_of out.new result ≡ on (flips (layout place.slots) place.ifs) (desk_of out.old from) }
 {
     from.with(flip(out, from.emitter, place))
@@ -64,7 +59,7 @@ fn flipped(out: &mut [u32], from: Walk, place: Place) -> Walk
 // A statement that holds no other: SKIP, DEF, SET, PUT or RETURN, whose record was read.
 #[tactic(auto, unfolding(script::specs::Table::read_s, emitting::specs::Walking::head_s))]
 fn single(source: Source, out: &mut [u32], here: Walk, place: Place, x: Record) -> Walk
-    requires { Small place × (x.kind ≡ 31 → ⊥) × (x.kind ≡ 35 → ⊥) × (x.kind ≡ 36 → ⊥) }
+    requires { (x.kind ≡ 31 → ⊥) × (x.kind ≡ 35 → ⊥) × (x.kind ≡ 36 → ⊥) }
     ensures { (f : ℕ → Desk → Desk) → desk_of out.new result ≡ head_s source.entry.params.now source.entry.table.now (layout place.slots) f place.ifs (desk_of out.old here) (read_s x) }
 {
     let kind = x.kind;
@@ -86,7 +81,7 @@ pub(crate) fn statement(
     place: Place,
     left: u32,
 ) -> Walk
-    requires { (place.slots ≤ 32) × (place.ifs + left ≤ 16) }
+    requires { place.ifs + left ≤ 16 }
     ensures { desk_of out.new result ≡ walk_s source.entry.params.now source.entry.table.now (layout place.slots) left place.ifs (desk_of out.old from) }
 {
     if left == 0 {
@@ -122,8 +117,8 @@ pub(crate) fn statement(
             // its condition, into the slot that it has
             let first = define(source, out, here, place.condition());
             let inside = Place {
+                slots: place.slots,
                 ifs: place.ifs + 1,
-                ..place
             };
             let then = statement(source, out, first, inside, left - 1);
             let second = flipped(out, then, place);

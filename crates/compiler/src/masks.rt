@@ -6,13 +6,9 @@ ghost use Rattle.translation.specs.Translate.{layout, context, masking};
 ghost use Rattle.emitting.specs.Emitting.{sheet, lay_e, masks, merges, assigns, stores, gives, flips};
 
 use emitting::emitter::Emitter;
+use emitting::expression::{AND, OR};
 use tape::instruction::Instruction::{Bin, Get, Lit, Not, Put, Set, Var};
 use word::operators::TRUE;
-
-// The codes of `&` and `|`.
-const AND: u32 = 6;
-
-const OR: u32 = 7;
 
 // Where a statement stands: how many slots its function has, and how many IFs lie round it. Behind the function's slots lie those of the translation: rval, rnset, and
 // a condition for each IF.

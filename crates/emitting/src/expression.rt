@@ -13,13 +13,18 @@ use tape::instruction::Instruction;
 use word::Record;
 use word::operators::{FALSE, TRUE};
 
+// The codes of `&` and `|`.
+pub const AND: u32 = 6;
+
+pub const OR: u32 = 7;
+
 // `&&` becomes `&`, and `||` becomes `|`.
 fn lowered(code: u32) -> u32
     ensures { result ≡ lowered_code code }
 {
     match code {
-        14 => 6,
-        15 => 7,
+        14 => AND,
+        15 => OR,
         _ => code,
     }
 }

@@ -1,9 +1,10 @@
 // What the later stages share: where the functions begin, how many parts a record has, how many parameters each function has. Assumes nothing of the records.
-#![tactic(auto, using(std::proofs::lemmas::Bool::Decides::nat_tests), unfolding(crate::specs::Passes::heading, crate::specs::Passes::heading_of, crate::specs::Passes::noted, crate::specs::Passes::expressions_of, crate::specs::Passes::arity_of, crate::specs::Passes::params_of))]
+#![tactic(auto, using(std::proofs::lemmas::Bool::Decides::nat_tests), unfolding(crate::specs::Passes::heading, crate::specs::Passes::heading_of, crate::specs::Passes::noted, crate::specs::Passes::expressions_of, crate::specs::Passes::arity_of, crate::specs::Passes::params_of, script::specs::Shape::parts_in, script::specs::Shape::expressions_in, script::specs::Table::read_e, script::specs::Table::read_s))]
 
 ghost use Rattle.std.specs.Prelude.{◌≡◌};
 ghost use Rattle.scoping.specs.Passes.{heading, noted, expressions_of, arity_of};
 
+use script::shape::{expressions_in, parts_in};
 use word::Record;
 use word::reader::Reader;
 
@@ -32,13 +33,13 @@ pub fn program(table: &[u32]) -> Heading
     }
 }
 
-// How many expressions are a statement's.
-pub fn expressions(kind: u32) -> u32
-    ensures { result ≡ expressions_of kind }
+// How many expressions are a statement's; a record that is none has no such parts.
+pub fn expressions(x: Record) -> u32
+    ensures { result ≡ expressions_of x.kind }
 {
+    let kind = x.kind;
     match kind {
-        32 | 33 | 36 | 37 => 1,
-        34 => 2,
+        30..=37 => expressions_in(x),
         _ => 0,
     }
 }
@@ -49,9 +50,7 @@ pub fn arity(params: &[u32; 16], x: Record) -> u32
 {
     let kind = x.kind;
     match kind {
-        24..=26 => 1,
-        27 => 2,
-        28 => params.get(x.p as usize).copied().unwrap_or(0),
+        20..=28 => parts_in(x, params),
         _ => 0,
     }
 }

@@ -41,11 +41,7 @@ impl Slots {
     fn hides(self, x: Record) -> bool
         ensures { result ≡ hides self x }
     {
-        if x.kind == 23 {
-            !(has(self.defined, x.p) | has(self.fixed, x.p))
-        } else {
-            false
-        }
+        x.kind == 23 && !(has(self.defined, x.p) | has(self.fixed, x.p))
     }
 
     // 8: a slot is declared once at most.
@@ -160,9 +156,8 @@ impl Stage for Scoping {
             return inside;
         }
         Slots {
-            defined: outside.defined,
-            fixed: outside.fixed,
             declared: inside.declared,
+            ..outside
         }
     }
 }

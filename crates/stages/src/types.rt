@@ -123,25 +123,6 @@ fn nothing(at: Reader) -> Typed
     }
 }
 
-// The expression at the cursor, which may hold others to the depth that is left, itself counted.
-#[tactic(auto, using(crate::proofs::Gathering::typed_deep, crate::proofs::Gathering::typed_end, crate::proofs::Gathering::typed_found, crate::proofs::Gathering::gather_more, crate::proofs::Gathering::gather_all))]
-fn expression(table: &[u32], params: &[u32; 16], slots: u32, start: Reader, left: u32) -> Typed
-    ensures { result ≡ typed_at table.now params.now slots left start.at }
-{
-    if left == 0 {
-        return nothing(start);
-    }
-    let Some((x, next)) = start.next(table) else {
-        return nothing(start);
-    };
-    let count = arity(params, x);
-    let mut parts = Parts::none(next);
-    for part in 0..count {
-        parts = parts.with(expression(table, params, slots, parts.next, left - 1));
-    }
-    judge(slots, x, start, parts)
-}
-
 // Whether a statement's expressions are what it requires: a SET's of its slot's type, a condition a boolean, the others numbers.
 fn suits(slots: u32, x: Record, parts: Parts) -> bool
     ensures { result ≡ suits_by slots x parts }
@@ -174,6 +155,25 @@ struct Typing {
 }
 
 impl Typing {
+    // The expression at the cursor, which may hold others to the depth that is left, itself counted.
+    #[tactic(auto, using(crate::proofs::Gathering::typed_deep, crate::proofs::Gathering::typed_end, crate::proofs::Gathering::typed_found, crate::proofs::Gathering::gather_more, crate::proofs::Gathering::gather_all))]
+    fn expression(&self, table: &[u32], slots: u32, start: Reader, left: u32) -> Typed
+        ensures { result ≡ typed_at table.now self.now.params slots left start.at }
+    {
+        if left == 0 {
+            return nothing(start);
+        }
+        let Some((x, next)) = start.next(table) else {
+            return nothing(start);
+        };
+        let count = arity(&self.params, x);
+        let mut parts = Parts::none(next);
+        for part in 0..count {
+            parts = parts.with(self.expression(table, slots, parts.next, left - 1));
+        }
+        judge(slots, x, start, parts)
+    }
+
     // So many expressions, one after another.
     #[tactic(auto, using(crate::proofs::Gathering::gather_more, crate::proofs::Gathering::gather_all))]
     fn gather(&self, table: &[u32], slots: u32, next: Reader, count: u32) -> Parts
@@ -181,7 +181,7 @@ impl Typing {
     {
         let mut parts = Parts::none(next);
         for part in 0..count {
-            parts = parts.with(expression(table, &self.params, slots, parts.next, 16));
+            parts = parts.with(self.expression(table, slots, parts.next, 16));
         }
         parts
     }
@@ -203,7 +203,7 @@ impl Stage for Typing {
         next: Reader,
         slots: u32,
     ) -> Result<(Reader, u32), Refusal> {
-        let parts = self.gather(table, slots, next, expressions(x.kind));
+        let parts = self.gather(table, slots, next, expressions(x));
         require(suits(slots, x, parts), at)?;
         parts.first?;
         Ok((parts.next, settle(slots, x, parts.leading())))

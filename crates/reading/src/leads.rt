@@ -32,13 +32,8 @@ fn not_due(at: Reader) -> Result<(), Refusal>
 fn fields(at: Reader, blank: bool, range: bool) -> Result<(), Refusal>
     ensures { result ≡ cond blank (cond range (Ok tt) (refuse 5 at.at)) (refuse 4 at.at) }
 {
-    if !blank {
-        return Err(at.refusal(Reason::TableUnused));
-    }
-    if !range {
-        return Err(at.refusal(Reason::TableRange));
-    }
-    Ok(())
+    at.require(blank, Reason::TableUnused)?;
+    at.require(range, Reason::TableRange)
 }
 
 pub fn program_leads(x: Record, at: Reader) -> Result<(), Refusal>

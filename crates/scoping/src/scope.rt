@@ -48,10 +48,7 @@ impl Slots {
     fn declarable(self, x: u32, at: Reader) -> Result<(), Refusal>
         ensures { result ≡ declarable (has self.declared x) at.at }
     {
-        if has(self.declared, x) {
-            return Err(at.refusal(Reason::Scope));
-        }
-        Ok(())
+        at.require(!has(self.declared, x), Reason::Scope)
     }
 
     // 8 if it is not visible, 9 if it is a parameter or a loop's.

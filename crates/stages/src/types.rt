@@ -3,7 +3,6 @@
 #![tactic(auto, using(std::proofs::lemmas::Bool::Decides::nat_tests), unfolding(script::specs::Stage::or_else, script::specs::Stage::after, script::specs::Types::require, scoping::specs::Passes::answered, crate::specs::Typed::no_parts, crate::specs::Typed::with_part, crate::specs::Typed::type_by, crate::specs::Typed::fits_by, crate::specs::Typed::judged, crate::specs::Typed::untyped, crate::specs::Typed::suits_by, crate::specs::Typed::settled, crate::specs::Typed::judged_s, crate::specs::Typed::typing_at))]
 
 ghost use Rattle.std.specs.Prelude.{◌≡◌, ◌+◌};
-ghost use Rattle.script.specs.Types.{require};
 ghost use Rattle.scoping.specs.Passes.{funcs_from, answered};
 ghost use Rattle.stages.specs.Typed.{no_parts, with_part, leading, gather, type_by, fits_by, judged, untyped, typed_at, suits_by, settled, judged_s, typing_at, kept, typed_func, nobody, typed};
 
@@ -91,21 +90,12 @@ fn fits(x: Record, numbers: bool, booleans: bool) -> bool
     }
 }
 
-// 10, where what is required is not there.
-fn require(met: bool, at: Reader) -> Result<(), Refusal>
-    ensures { result ≡ require met at.at }
-{
-    if !met {
-        return Err(at.refusal(Reason::Mistyped));
-    }
-    Ok(())
-}
-
 // The whole's own fault comes before its parts'.
 fn judge(slots: u32, x: Record, at: Reader, parts: Parts) -> Typed
     ensures { result ≡ judged slots x at.at parts }
 {
-    let own = require(fits(x, parts.numbers, parts.booleans), at);
+    let fit = fits(x, parts.numbers, parts.booleans);
+    let own = at.require(fit, Reason::Mistyped);
     Typed {
         boolean: type_by(slots, x, parts.leading()),
         first: own.and(parts.first),
@@ -204,7 +194,7 @@ impl Stage for Typing {
         slots: u32,
     ) -> Result<(Reader, u32), Refusal> {
         let parts = self.gather(table, slots, next, expressions(x));
-        require(suits(slots, x, parts), at)?;
+        at.require(suits(slots, x, parts), Reason::Mistyped)?;
         parts.first?;
         Ok((parts.next, settle(slots, x, parts.leading())))
     }

@@ -1,5 +1,5 @@
 -- How a table, a tape or a run is refused (01, "Refusal numbers"): by a number, at a place. Assumes nothing: these are definitions.
-use Rattle.std.specs.Prelude.{ℕ, Result, Ok, Err}
+use Rattle.std.specs.Prelude.{ℕ, Bool, true, false, Result, Ok, Err}
 use Rattle.word.specs.declared.Refusal.{Refusal}
 
 -- what was asked for, or a refusal
@@ -11,6 +11,11 @@ refusal number place = record { number = number; place = place }
 
 abbrev pub refuse : {A : Type 0} → ℕ → ℕ → OrRefused A
 refuse number place = Err (refusal number place)
+
+-- a refusal where what is required is not met
+abbrev pub required : Bool → ℕ → ℕ → OrRefused (Unit {0})
+required true number place = Ok tt
+required false number place = refuse number place
 
 -- on with what was asked for; a refusal is the whole's
 infixl 10 ◌>>=◌

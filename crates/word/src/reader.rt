@@ -2,7 +2,7 @@
 ghost use Rattle.std.specs.Prelude.{◌≡◌};
 ghost use Rattle.word.specs.Reader.{read_at};
 ghost use Rattle.word.specs.Reasons.{number_of};
-ghost use Rattle.word.specs.Refusals.{refusal};
+ghost use Rattle.word.specs.Refusals.{refusal, required};
 
 use crate::reason::Reason;
 use crate::{Record, Refusal};
@@ -45,5 +45,16 @@ impl Reader {
         ensures { result ≡ refusal (number_of reason) self.at }
     {
         Refusal::new(reason, self.at)
+    }
+
+    // The refusal, where what is required is not met.
+    pub fn require(self, met: bool, reason: Reason) -> Result<(), Refusal>
+        ensures { result ≡ required met (number_of reason) self.at }
+    {
+        if met {
+            Ok(())
+        } else {
+            Err(self.refusal(reason))
+        }
     }
 }

@@ -62,14 +62,15 @@ impl Known {
     fn weight(&self, x: Record) -> u32
         ensures { result ≡ weight self.now.steps x }
     {
-        if x.kind <= 22 {
-            return 0;
+        let kind = x.kind;
+        match kind {
+            0..=22 => 0,
+            23..=27 => 1,
+            _ => {
+                let called = self.steps.get(x.p as usize).copied().unwrap_or(0);
+                sum(1, called)
+            }
         }
-        if x.kind <= 27 {
-            return 1;
-        }
-        let called = self.steps.get(x.p as usize).copied().unwrap_or(0);
-        sum(1, called)
     }
 
     // The expression where the count stands: each record by itself, until no part is left. An expression has as many records on the tape as in the table.

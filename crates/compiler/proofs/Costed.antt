@@ -41,6 +41,7 @@ use Rattle.compiler.proofs.Depths.{Right, deeps_right, code_right, code_records}
 use Rattle.translation.proofs.Sizes.{tape_most}
 use Rattle.std.specs.Prelude.{Ok, Err}
 use Rattle.word.specs.Refusals.{refuse}
+use Rattle.compiler.proofs.Deciding.{or_clean}
 
 -- ---- PROGRAM and the arrays
 lay_a : List ℕ → Sheet → Sheet
@@ -116,11 +117,6 @@ module _ (t : List ℕ) (p : Program) (w : Within p) (is : records_of t ≡ list
       let fits = run_fits (code_p deeps p) out 0 (few deeps) (omega (arith, code_p_records deeps, tape_words)) in
       table_walked deeps out ∙ ap (λ (s : Sheet). s.words) fits ∙ ap (λ (c : Code). sets out 0 (words c)) (code_p_right right)
 
-cost_last : (r : First) → or_else r (Ok tt) ≡ r
-unfolding or_else
-cost_last (Ok u) = refl
-cost_last (Err r) = refl
-
 -- ---- a table that was read
 module _ (t : List ℕ) (w : Words t) (p : Program) (i : ℕ) (e : read_table t ≡ parsed p i) where
   stands : records_of t ≡ listing p
@@ -165,4 +161,4 @@ module _ (t : List ℕ) (w : Words t) (p : Program) (i : ℕ) (e : read_table t 
   -- where no stage before it finds a fault, this is the compiler's whole answer
   pub compiled_is : over_program scope_f p ≡ Ok tt → over_program type_f p ≡ Ok tt → storage p ≡ Ok tt → (out : List ℕ) → write_out t out ≡ compile t out
   unfolding compile compile_by stages first_of or_else
-  compiled_is scope types stored out = written_is out ∙ rw (e, scope, types, stored, cost_last (costs p)) refl
+  compiled_is scope types stored out = written_is out ∙ rw (e, scope, types, stored, or_clean (costs p)) refl

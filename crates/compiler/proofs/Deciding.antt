@@ -15,7 +15,7 @@ use Rattle.std.specs.Prelude.{Ok, Err}
 use Rattle.word.specs.Refusals.{refuse}
 use Rattle.word.proofs.Refused.{refused_number, refused_place}
 
-or_clean : (a : First) → or_else a (Ok tt) ≡ a
+pub or_clean : (a : First) → or_else a (Ok tt) ≡ a
 unfolding or_else
 or_clean (Ok u) = refl
 or_clean (Err r) = refl

@@ -56,7 +56,8 @@ fn copied_one(table: &[u32], out: &mut [u32], from: Walk) -> Walk
     }
 }
 
-// Function f: its own records round its body's; and what is kept of it. A table that was read has 32 slots at most in a function.
+// Function f: its own records round its body's; and what is kept of it. A table that was read has 32 slots at most in a function. The depths are the cost's and only
+// read, the parameters grow by one at each function: so they are two lists.
 #[tactic(auto, using(crate::proofs::Tables::walk_f_end, crate::proofs::Tables::walk_f_found), unfolding(tape::specs::Named::named, scoping::specs::Passes::noted, crate::specs::Writing::body_of))]
 fn function(
     table: &[u32],

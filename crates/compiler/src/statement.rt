@@ -1,4 +1,5 @@
-// Statements, by the translation's clauses. A part is left with the walk past it.
+// Statements, by the translation's clauses. A part is left with the walk past it. The source stays as it is and the place changes from statement to statement, so they
+// are two. An expression and what is written behind it are two lines each time, which a closure for the second would not shorten.
 ghost use Rattle.std.specs.Prelude.{◌≡◌, ℕ, ◌+◌, ◌≤◌};
 ghost use Rattle.script.specs.Table.{read_s};
 ghost use Rattle.tape.specs.Instruction.{def};

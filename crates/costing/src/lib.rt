@@ -15,7 +15,8 @@ use translation::Tape;
 use word::Refusal;
 use word::reason::Reason;
 
-// Function f, with six records of its own and three steps; and what is kept of it for the later ones.
+// Function f, with six records of its own and three steps; and what is kept of it for the later ones. The depths are the caller's, who hands them on to the
+// translation; the rest ends here.
 #[tactic(auto, using(crate::proofs::Turns::function_end, crate::proofs::Turns::function_found), unfolding(crate::specs::Totals::body_at, crate::specs::Totals::keeping))]
 fn function(
     table: &[u32],

@@ -1,4 +1,5 @@
-// Statements, counted by the figures of their translation.
+// Statements, counted by the figures of their translation. It is the compiler's walk again, in figures: a loop's steps are multiplied and no word is written, so that
+// of one walk for both only the match on the kinds would be shared. That the IFs are 16 at most is one number's bound, which a type would say no more shortly.
 ghost use Rattle.std.specs.Prelude.{◌≡◌, ℕ, suc, ◌+◌, ◌-◌, ◌≤◌};
 ghost use Rattle.script.specs.Table.{read_s};
 ghost use Rattle.costing.specs.Counting.{plus, deeper, opened, closed, expression, masked, putting, head, statement};

@@ -15,7 +15,7 @@ pub struct Heading {
     pub first: Reader,
 }
 
-// Where there is no record there is no function.
+// Where there is no record there is no function. Each stage reads it for itself: no stage hands anything to the next.
 pub fn program(table: &[u32]) -> Heading
     ensures { result ≡ heading table.now }
 {
@@ -55,7 +55,7 @@ pub fn arity(params: &[u32; 16], x: Record) -> u32
     }
 }
 
-// A row says v of function f from now on, if it has a place for it.
+// A row says v of function f from now on, if it has a place for it. By index: of what `get_mut` lends of a slice nothing is known afterwards but the length.
 pub fn note(row: &mut [u32], f: usize, v: u32)
     ensures { row.new ≡ noted row.old f v }
 {

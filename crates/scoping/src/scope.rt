@@ -16,7 +16,8 @@ use word::reason::Reason;
 use word::sets::{below, has, put};
 use word::{Record, Refusal};
 
-// What is visible, as a DEF's slot or as a parameter or a loop's, and which slots were declared so far.
+// What is visible, as a DEF's slot or as a parameter or a loop's, and which slots were declared so far. Three sets, a bit for each slot: a map from slots to what they
+// are would be an array, copied at each statement.
 #[derive(Clone, Copy, Debug, PartialEq, Eq)]
 pub struct Slots {
     pub defined: u32,
@@ -77,6 +78,7 @@ impl Slots {
         }
     }
 
+    // It goes into one of two sets and out of the other, by whether a loop's FOR declares it.
     fn declares(self, x: u32, in_loop: bool) -> Slots
         ensures { result ≡ declares self x in_loop }
     {
@@ -159,7 +161,7 @@ impl Stage for Scoping {
     }
 }
 
-// So many functions from the cursor on.
+// So many functions from the cursor on. Types has a loop of its own, since it notes something of each function for the later ones.
 #[tactic(auto, using(crate::proofs::Walking::funcs_all, crate::proofs::Walking::funcs_end, crate::proofs::ScopeSteps::scope_more), unfolding(crate::specs::Scoped::scoping))]
 fn functions(table: &[u32], start: Reader, count: u32) -> Result<(), Refusal>
     ensures { result ≡ funcs_from (scoped_func table.now) table.now count tt start.at }

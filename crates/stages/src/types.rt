@@ -14,7 +14,8 @@ use word::reason::Reason;
 use word::sets::{has, put};
 use word::{Record, Refusal};
 
-// Whether an expression is a boolean, the first fault in it, and the cursor past it.
+// Whether an expression is a boolean, the first fault in it, and the cursor past it. A slot's type is one bit of a set and each use of a type is a test, so a type is
+// said as whether it is a boolean: an enum would be made from that bit and turned back into it.
 #[derive(Clone, Copy, Debug, PartialEq, Eq)]
 pub struct Typed {
     pub boolean: bool,

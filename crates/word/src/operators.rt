@@ -31,13 +31,13 @@ pub fn times(a: u32, b: u32) -> u32
 pub fn shift_left(a: u32, n: u32) -> u32
     ensures { result ≡ op shl a n }
 {
-    if n < 32 { a << n } else { 0 }
+    a.unbounded_shl(n)
 }
 
 pub fn shift_right(a: u32, n: u32) -> u32
     ensures { result ≡ op shr a n }
 {
-    if n < 32 { a >> n } else { 0 }
+    a.unbounded_shr(n)
 }
 
 pub fn both(a: u32, b: u32) -> u32

@@ -6,11 +6,7 @@ ghost use Rattle.word.specs.Sets.{has, toggle, put, below};
 pub fn has(members: u32, p: u32) -> bool
     ensures { result ≡ has members p }
 {
-    if p < 32 {
-        (members >> p) % 2 == 1
-    } else {
-        false
-    }
+    p < 32 && (members >> p) % 2 == 1
 }
 
 fn toggle(members: u32, p: u32) -> u32
@@ -25,13 +21,10 @@ fn toggle(members: u32, p: u32) -> u32
 pub fn put(members: u32, p: u32, member: bool) -> u32
     ensures { result ≡ put members p member }
 {
-    if 32 <= p {
-        return members;
-    }
-    if has(members, p) {
-        if member { members } else { toggle(members, p) }
+    if p < 32 && has(members, p) != member {
+        toggle(members, p)
     } else {
-        if member { toggle(members, p) } else { members }
+        members
     }
 }
 

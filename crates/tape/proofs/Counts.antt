@@ -1,5 +1,5 @@
 -- Counts that are held at one more than the limit: to hold a part early changes nothing. Assumes nothing.
-use Prim.Native.Nat.{ℕ, zero, suc, ◌+◌, ◌*◌, ◌≤◌, ◌<◌}
+use Prim.Native.Nat.{ℕ, zero, suc, ◌+◌, ◌*◌, ◌≤◌, ◌<◌, min}
 use native.Mathlib.Omega.{arith}
 use native.Mathlib.Nat.{mul-le-mul_right, zero-mul, one-mul}
 use native.Mathlib.Numerals.{add-one}
@@ -8,6 +8,7 @@ use mathlib.Core.Logic.{⊎_elim, ◌⊎◌, inl, inr}
 use mathlib.Core.Bool.{Bool, true, false}
 use borrow.Author.Tests.{le-leb, lt-leb, leb-true, leb-false}
 use lib.Dec.{leb}
+use Rattle.std.proofs.Math.Nat.{min-eq_left, min-eq_right}
 use Rattle.tape.specs.Steps.{most}
 use Rattle.tape.specs.Held.{hold}
 
@@ -64,3 +65,13 @@ hold_loop o n i =
 -- a held count is within the limit where the count is, and then it is the count
 pub hold_leb : (n : ℕ) → leb (hold n) most ≡ leb n most
 hold_leb n = ⊎_elim (λ h. ap (λ (m : ℕ). leb m most) (hold_within n h)) (λ h. ap (λ (m : ℕ). leb m most) (hold_over n h) ∙ sym (lt-leb n most h)) (over_or_not n)
+
+-- the lesser of the count and one more than the limit
+pub hold_least : (n : ℕ) → min n 1000000001 ≡ hold n
+hold_least n = ⊎_elim (λ h. min-eq_left (omega arith) ∙ sym (hold_within n h)) (λ h. min-eq_right h ∙ sym (hold_over n h)) (over_or_not n)
+
+-- a count that does not fit a word of 64 bits is over the limit
+pub hold_fitting : (n : ℕ) → hold (min n 18446744073709551615) ≡ hold n
+hold_fitting n =
+    ⊎_elim (λ h. ap hold (min-eq_left (omega arith)))
+    (λ h. hold_over (min n 18446744073709551615) (omega arith) ∙ sym (hold_over n h)) (over_or_not n)

@@ -2,15 +2,14 @@
 ghost use Rattle.std.specs.Prelude.{◌≡◌, suc, ◌+◌, ◌*◌};
 ghost use Rattle.tape.specs.Held.{hold};
 
-// A count of steps, held at one more than the limit.
+// A function's steps, its calls included, may be this many (12 and 30).
+pub const LIMIT: u32 = 1000000000;
+
+#[tactic(auto, using(crate::proofs::Counts::hold_least))]
 fn hold(count: u64) -> u32
     ensures { result ≡ hold count }
 {
-    if count <= 1000000000 {
-        count as u32
-    } else {
-        1000000001
-    }
+    count.min(LIMIT as u64 + 1) as u32
 }
 
 // The steps of two parts.
@@ -28,23 +27,16 @@ pub fn with_loop(before: u32, passes: u32, inner: u32) -> u32
 }
 
 // A count and so many more, held.
+#[tactic(auto, using(crate::proofs::Counts::hold_fitting))]
 pub fn more(count: usize, n: u32) -> usize
     ensures { result ≡ hold (count + n) }
 {
-    if 1000000000 < count {
-        1000000001
-    } else {
-        sum(count as u32, n) as usize
-    }
+    short(count.saturating_add(n as usize)) as usize
 }
 
 // A count as a word, held.
 pub fn short(count: usize) -> u32
     ensures { result ≡ hold count }
 {
-    if 1000000000 < count {
-        1000000001
-    } else {
-        count as u32
-    }
+    hold(count as u64)
 }

@@ -44,8 +44,7 @@ pub(crate) fn next_pass(tape: &[u32], stacks: &Stacks, loops: usize) -> Option<u
 {
     let d = loops - 1;
     let x = record(tape, stacks.loops[d].at as usize);
-    let n = stacks.loops[d].pass.checked_add(1)?;
-    if n < x.r { Some(n) } else { None }
+    stacks.loops[d].pass.checked_add(1).filter(|n| *n < x.r)
 }
 
 // END: the next pass, or on behind the loop.

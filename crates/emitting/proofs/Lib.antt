@@ -1,2 +1,3 @@
--- What the functions' proofs share: Stepping (a walk by one record).
+-- What the functions' proofs share: Storing (four words at once), Stepping (a walk by one record).
+pub mod Storing
 pub mod Stepping

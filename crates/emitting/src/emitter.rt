@@ -15,16 +15,13 @@ pub struct Emitter {
 }
 
 // The four words of record `at`, where there is room for them.
-#[tactic(auto, using(std::proofs::lemmas::Bool::Decides::nat_tests), unfolding(crate::specs::Emitting::words_if))]
+#[tactic(auto, using(std::proofs::lemmas::Bool::Decides::nat_tests, crate::proofs::Storing::four_at_once), unfolding(crate::specs::Emitting::words_if))]
 fn store(out: &mut [u32], at: usize, x: Record)
     ensures { out.new ≡ words_if (ltb at (records out.old)) out.old at x }
 {
     if at < out.len() / 4 {
         let b = at * 4;
-        out[b] = x.kind;
-        out[b + 1] = x.p;
-        out[b + 2] = x.q;
-        out[b + 3] = x.r;
+        out[b..b + 4].copy_from_slice(&[x.kind, x.p, x.q, x.r]);
     }
 }
 

@@ -50,9 +50,7 @@ impl Standing {
         requires { (self.known ≤ 16) × Room (due_of self.due) self.known self.functions }
         ensures { (b : Bodies) → result ≡ judge (said found) at.at (at_end (more (due_of self.due)) (scan_of self functions.now b) at.at) }
     {
-        if let Err(reason) = found {
-            return Err(at.refusal(reason));
-        }
+        found.map_err(|reason| at.refusal(reason))?;
         if self.due.more() {
             return Err(at.refusal(Reason::TapeEnds));
         }

@@ -30,12 +30,9 @@ impl Functions {
         requires { known ≤ 16 }
         ensures { FirstOver self.now.steps known result }
     {
-        for f in 0..known {
-            if 1000000000 < self.steps[f] {
-                return Some(f);
-            }
-        }
-        None
+        self.steps[..known]
+            .iter()
+            .position(|&steps| 1000000000 < steps)
     }
 }
 

@@ -64,8 +64,7 @@ impl Functions {
         requires { known ≤ 16 }
         ensures { result ≡ (if nat_lt f known then slice_index self.now.params f else 0) }
     {
-        let i = f as usize;
-        if i < known { self.params[i] } else { 0 }
+        self.params[..known].get(f as usize).copied().unwrap_or(0)
     }
 }
 

@@ -63,8 +63,8 @@ impl Standing {
 fn scan(tape: &[u32]) -> Result<u32, Refusal>
     ensures { result ≡ scan start 0 (records_of tape.now) }
 {
-    let mut functions = Functions::new();
-    let mut bodies = Bodies::new();
+    let mut functions = Functions::default();
+    let mut bodies = Bodies::default();
     let mut s = Standing::new();
     let mut at = Reader::new();
     let mut found = Ok(());

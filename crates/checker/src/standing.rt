@@ -32,7 +32,7 @@ pub(crate) struct Standing {
 }
 
 // Of the functions whose RET was passed: parameters, steps, the records of their CFUNCs.
-#[derive(Drop)]
+#[derive(Default, Drop)]
 pub(crate) struct Functions {
     pub(crate) params: [u32; 16],
     pub(crate) steps: [u32; 16],
@@ -40,7 +40,7 @@ pub(crate) struct Functions {
 }
 
 // Of the open bodies, the function's own first: the slot of its FOR, its passes, the steps before the FOR inside it, and the set of its DEFs.
-#[derive(Drop)]
+#[derive(Default, Drop)]
 pub(crate) struct Bodies {
     pub(crate) slots: [u32; 9],
     pub(crate) passes: [u32; 9],
@@ -66,29 +66,6 @@ impl Standing {
             operands: 0,
             steps: 0,
             deep: 0,
-        }
-    }
-}
-
-impl Functions {
-    pub(crate) fn new() -> Self {
-        Functions {
-            params: [0; 16],
-            steps: [0; 16],
-            places: [0; 16],
-        }
-    }
-}
-
-impl Bodies {
-    pub(crate) fn new() -> Self
-        ensures { slice_index result.defs 0 ≡ 0 }
-    {
-        Bodies {
-            slots: [0; 9],
-            passes: [0; 9],
-            counts: [0; 9],
-            defs: [0; 9],
         }
     }
 }

@@ -15,7 +15,7 @@ use Rattle.checker.proofs.check.scan.Goals as goal
 use Rattle.checker.proofs.check.scan.Goals.{in-Some+then-is_err, in-Some+else-is_err+then-bodies-test+then-lt, in-Some+else-is_err+then-outside, else-bodies-test, then-bodies-test+else-lt+then-ne, in_default, Else-outside}
 
 pub scan-init : goal.scan-init
-scan-init c = (refl, rw c.new-at.ensures (stands_first _ _ _ _ (c.new-s.ensures.starts _ _ c.new-bodies.ensures)))
+scan-init c = (refl, rw c.new-at.ensures (stands_first _ _ _ _ (c.new-s.ensures.starts _ _ (c.default-bodies.ensures.1.1.1.at 0 0 (omega arith)))))
 
 pub fault-found-requires : goal.fault-found-requires
 fault-found-requires c = known_room c.scan.invariant.1

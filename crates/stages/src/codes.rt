@@ -8,21 +8,20 @@ ghost use Rattle.stages.specs.Typed.{code_type, code_fits};
 pub fn code_type(p: u32, lead: bool) -> bool
     ensures { result ≡ code_type p lead }
 {
-    if p <= 5 {
-        return false;
+    match p {
+        0..=5 => false,
+        6 | 7 => lead,
+        _ => true,
     }
-    if p <= 7 { lead } else { true }
 }
 
 // Whether its sides are what it requires: numbers, equal types, numbers, booleans.
 pub fn code_fits(p: u32, numbers: bool, booleans: bool) -> bool
     ensures { result ≡ code_fits p numbers booleans }
 {
-    if p <= 5 {
-        return numbers;
+    match p {
+        0..=5 | 10..=13 => numbers,
+        6..=9 => numbers | booleans,
+        _ => booleans,
     }
-    if p <= 9 {
-        return numbers | booleans;
-    }
-    if p <= 13 { numbers } else { booleans }
 }

@@ -1,6 +1,4 @@
 // Reading the file of cases: numbers, lists of words, runs of bytes (data/FORMAT.md). Any bytes may stand in it; where it ends early, what is missing is 0.
-ghost use Rattle.std.specs.Prelude.{◌≡◌, length};
-
 use std::alloc::{AllocError, Global};
 use word::operators::{plus, times};
 
@@ -53,9 +51,7 @@ impl<'a> Cases<'a> {
     }
 
     // A count and so many bytes, each after its position: these bytes of the memory are changed.
-    pub fn changes(&mut self, memory: &mut [u8])
-        ensures { length memory.new ≡ length memory.old }
-    {
+    pub fn changes(&mut self, memory: &mut [u8]) {
         for _ in 0..self.number() {
             let place = self.number() as usize;
             let value = self.byte();

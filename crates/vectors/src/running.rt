@@ -1,6 +1,4 @@
 // A case that is run: its answer and every byte of its memory are compared. Of a plain meaning the value and the bytes are.
-ghost use Rattle.std.specs.Prelude.{◌≡◌, length};
-
 use crate::decoding::Cases;
 use machine::Ran;
 use std::alloc::{AllocError, Global};
@@ -40,9 +38,7 @@ pub fn run_plain(alloc: Global, cases: &mut Cases, tape: &[u32]) -> Result<bool,
 }
 
 // The answer in the file. Its changes are made in the memory, which a refusal leaves as it was.
-fn answer(cases: &mut Cases, memory: &mut [u8]) -> Wanted
-    ensures { length memory.new ≡ length memory.old }
-{
+fn answer(cases: &mut Cases, memory: &mut [u8]) -> Wanted {
     let case = cases.number();
     let first = cases.number();
     let second = cases.number();
@@ -67,9 +63,13 @@ fn answer(cases: &mut Cases, memory: &mut [u8]) -> Wanted
     }
 }
 
-fn comes_out(tape: &[u32], arguments: &[u32], memory: &mut [u8], limit: u32, wanted: Wanted) -> bool
-    ensures { length memory.new ≡ length memory.old }
-{
+fn comes_out(
+    tape: &[u32],
+    arguments: &[u32],
+    memory: &mut [u8],
+    limit: u32,
+    wanted: Wanted,
+) -> bool {
     let ran = machine::run(tape, arguments, memory, limit);
     match wanted {
         Wanted::Answer(answer) => ran == answer,

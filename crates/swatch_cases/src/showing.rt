@@ -39,28 +39,27 @@ impl<'a> Case<'a> {
     // The records that were written are the tape.
     pub fn show(self, rt: &impl Print) -> io::Result<()> {
         let name = self.name;
+        let memory = self.memory;
         let mut out = [0u32; 4096];
         print!(rt; "{name}")?;
-        match compiler::compile(self.table, &mut out) {
-            Ok(tape) => self.run(rt, &out[..4 * tape.records.min(out.len() / 4)]),
-            Err(refusal) => refused(rt, refusal.number, refusal.place),
-        }
-    }
-
-    fn run(self, rt: &impl Print, tape: &[u32]) -> io::Result<()> {
-        let records = tape.len() / 4;
-        let memory = self.memory;
-        print!(rt; ": {records} records")?;
-        match machine::run(tape, self.arguments, memory, self.limit) {
+        let answer = match compiler::compile(self.table, &mut out) {
+            Ok(tape) => {
+                let tape = &out[..4 * tape.records.min(out.len() / 4)];
+                let records = tape.len() / 4;
+                print!(rt; ": {records} records")?;
+                machine::run(tape, self.arguments, memory, self.limit)
+            }
+            Err(refusal) => Err(refusal),
+        };
+        match answer {
             Ok(Ran::Done { value, steps }) => println!(rt; ", value {value} in {steps} steps"),
             Ok(Ran::Stopped { steps, record }) => {
                 println!(rt; ", stopped after {steps} steps at record {record}")
             }
-            Err(refusal) => refused(rt, refusal.number, refusal.place),
+            Err(refusal) => println!(rt;
+                ": refused {} at record {}",
+                refusal.number, refusal.place
+            ),
         }
     }
-}
-
-fn refused(rt: &impl Print, number: u32, place: usize) -> io::Result<()> {
-    println!(rt; ": refused {number} at record {place}")
 }

@@ -10,6 +10,7 @@ ghost use Rattle.checker.specs.declared.standing.Bodies.{Bodies};
 
 use crate::slots::{Seen, most, outside, searched};
 use crate::standing::{Bodies, Due, Functions, Standing};
+use tape::held::LIMIT;
 use word::reader::Reader;
 use word::reason::Reason;
 use word::{Refusal, sized};
@@ -30,9 +31,7 @@ impl Functions {
         requires { known ≤ 16 }
         ensures { FirstOver self.now.steps known result }
     {
-        self.steps[..known]
-            .iter()
-            .position(|&steps| 1000000000 < steps)
+        self.steps[..known].iter().position(|&steps| LIMIT < steps)
     }
 }
 

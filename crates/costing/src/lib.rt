@@ -10,7 +10,7 @@ ghost use Rattle.costing.specs.Totals.{totals, outcome, function_at, functions_f
 
 use count::{Count, Known};
 use scoping::passes::{note, program};
-use tape::held::{more, short};
+use tape::held::{LIMIT, more, short};
 use translation::Tape;
 use word::Refusal;
 use word::reason::Reason;
@@ -44,10 +44,7 @@ fn function(
     body
 }
 
-// Exactly so many steps pass (12).
-const LIMIT: usize = 1000000000;
-
-// The functions one after another, to the first that is over the limit.
+// The functions one after another, to the first that is over the limit: exactly so many steps pass (12).
 #[tactic(auto, using(crate::proofs::Turns::functions_on, crate::proofs::Turns::functions_over, crate::proofs::Turns::functions_end))]
 fn functions(
     table: &[u32],
@@ -62,7 +59,7 @@ fn functions(
     let mut here = from;
     for f in 0..n {
         let next = function(table, known, depths, here, f);
-        if LIMIT < next.steps {
+        if next.steps > LIMIT as usize {
             return Err(here.at.refusal(Reason::Cost));
         }
         here = next;

@@ -41,7 +41,7 @@ use Rattle.compiler.proofs.Depths.{Right, deeps_right, code_right, code_records}
 use Rattle.translation.proofs.Sizes.{tape_most}
 use Rattle.std.specs.Prelude.{Ok, Err}
 use Rattle.word.specs.Refusals.{refuse}
-use Rattle.compiler.proofs.Deciding.{or_clean}
+use Rattle.stages.proofs.TypeExprs.{or_clean}
 
 -- ---- PROGRAM and the arrays
 lay_a : List ℕ → Sheet → Sheet
@@ -161,4 +161,4 @@ module _ (t : List ℕ) (w : Words t) (p : Program) (i : ℕ) (e : read_table t 
   -- where no stage before it finds a fault, this is the compiler's whole answer
   pub compiled_is : over_program scope_f p ≡ Ok tt → over_program type_f p ≡ Ok tt → storage p ≡ Ok tt → (out : List ℕ) → write_out t out ≡ compile t out
   unfolding compile compile_by stages first_of or_else
-  compiled_is scope types stored out = written_is out ∙ rw (e, scope, types, stored, or_clean (costs p)) refl
+  compiled_is scope types stored out = written_is out ∙ rw (e, scope, types, stored, sym (or_clean (costs p))) refl

@@ -1,5 +1,5 @@
 -- The compiler's whole answer: a table's judgement decides, and then its cost. Assumes nothing.
-use mathlib.Core.Path.{◌≡◌, refl}
+use mathlib.Core.Path.{sym, ◌≡◌, refl}
 use mathlib.Core.List.{List}
 use Prim.Native.Nat.{ℕ}
 use Rattle.script.specs.Tree.{Program}
@@ -14,11 +14,7 @@ use Rattle.translation.specs.Compile.{costs, stages, first_of, unless_fault, com
 use Rattle.std.specs.Prelude.{Ok, Err}
 use Rattle.word.specs.Refusals.{refuse}
 use Rattle.word.proofs.Refused.{refused_number, refused_place}
-
-pub or_clean : (a : First) → or_else a (Ok tt) ≡ a
-unfolding or_else
-or_clean (Ok u) = refl
-or_clean (Err r) = refl
+use Rattle.stages.proofs.TypeExprs.{or_clean}
 
 or_assoc : (a b c : First) → or_else a (or_else b c) ≡ or_else (or_else a b) c
 unfolding or_else
@@ -33,7 +29,7 @@ cost_last p =
     let b = over_program type_f p in
     let c = stores p in
     let d = costs p in
-    rw (or_clean d, or_assoc b c d, or_assoc a (or_else b c) d) refl
+    rw (sym (or_clean d), or_assoc b c d, or_assoc a (or_else b c) d) refl
 
 pub compile_clean : (t : List ℕ) (p : Program) (i : ℕ) → read_table t ≡ parsed p i → checked p ≡ Ok tt → (out : List ℕ) → unless_fault (costs p) p out ≡ compile t out
 unfolding compile compile_by or_else

@@ -3,9 +3,9 @@
 -- the types are not taken back. Assumes nothing.
 use mathlib.Core.Path.{◌≡◌, refl, sym, ap, ◌∙◌, fun_ext}
 use mathlib.Core.Bool.{Bool, true, false}
+use Rattle.std.proofs.lemmas.Bool.{both_ways}
 use mathlib.Core.Logic.{◌≢◌}
 use Prim.Native.Nat.{ℕ}
-use native.Mathlib.Omega.{arith}
 use native.Mathlib.Decide.{ℕ_discrete}
 use lib.Dec.{ltb}
 use Rattle.word.specs.Types.{Ty, number}
@@ -27,9 +27,6 @@ pub record Later (n : Names) (Γ : Types) (m : Names) (Δ : Types) : Type 0 wher
   pub declared : (x : ℕ) → n.declared x ≡ true → m.declared x ≡ true
   pub typed : (x : ℕ) → n.declared x ≡ true → Δ x ≡ Γ x
 
-pub true_false : {b : Bool} → b ≡ true → b ≡ false → ⊥
-true_false p q = let z : ◌≡◌ {A = ℕ} 0 1 = cc in omega arith
-
 pub later_refl : {n : Names} {Γ : Types} → Later n Γ n Γ
 later_refl = record { declared = λ x h. h; typed = λ x h. refl }
 
@@ -41,7 +38,7 @@ pub later_undeclared : {n m : Names} {Γ Δ : Types} → Later n Γ m Δ → (x 
 later_undeclared {n} {m} l x h = go (n.declared x) refl
   where
     go : (b : Bool) → n.declared x ≡ b → n.declared x ≡ false
-    go true e = absurd (true_false (l.declared x e) h)
+    go true e = absurd (both_ways _ h (l.declared x e))
     go false e = e
 
 -- ---- a declaration
@@ -54,7 +51,7 @@ module _ (n : Names) (x : ℕ) (k : Seen) where
   pub undeclared : {y : ℕ} → (declare n x k).declared y ≡ false → (y ≢ x) × (n.declared y ≡ false)
   unfolding declare
   undeclared {y} h =
-      let other : y ≢ x = λ e. true_false (ap (declare n x k).declared e ∙ declared_here) h in
+      let other : y ≢ x = λ e. both_ways _ h (ap (declare n x k).declared e ∙ declared_here) in
       (other, sym (upd_other n.declared x true y other) ∙ h)
 
   module _ (Γ Δ : Types) (changed : (y : ℕ) → y ≢ x → Δ y ≡ Γ y) where
@@ -69,7 +66,7 @@ module _ (n : Names) (x : ℕ) (k : Seen) where
     pub later_declare : n.declared x ≡ false → Later n Γ (declare n x k) Δ
     unfolding declare
     later_declare u =
-        let other : (y : ℕ) → n.declared y ≡ true → y ≢ x = λ y e q. true_false (sym (ap n.declared q) ∙ e) u in
+        let other : (y : ℕ) → n.declared y ≡ true → y ≢ x = λ y e q. both_ways _ u (sym (ap n.declared q) ∙ e) in
         record { declared = λ y e. upd_other n.declared x true y (other y e) ∙ e; typed = λ y e. changed y (other y e) }
 
     -- and what is visible then

@@ -21,8 +21,9 @@ use Rattle.script.specs.declared.Env.{Env}
 use Rattle.script.proofs.Headed.{array_headed, func_headed, program_headed}
 use Rattle.script.proofs.Sizes.{size_fs, listing_size}
 use Rattle.script.proofs.Leading.{from, leads, leads_on, program_lawful, array_lawful, function_lawful, never, as_parsed, then_parsed, node_parsed}
-use Rattle.script.proofs.Reading.{ExprAt, StmtAt, two, expr_read, stmt_read}
-use Rattle.script.proofs.Writing.{both, expr_written, stmt_written}
+use Rattle.script.proofs.Reading.{ExprAt, StmtAt, expr_read, stmt_read}
+use Rattle.std.proofs.lemmas.Bool.{and_parts, and_from}
+use Rattle.script.proofs.Writing.{expr_written, stmt_written}
 
 -- ---- expressions and statements, anywhere in a table
 pub expr_exactly : (t : List ℕ) → Words t → (v : Env) (left at : ℕ) (x : Expr) (end : ℕ) → (parse_e left v t at ≡ parsed x end) ↔ ExprAt t v left at x end
@@ -49,7 +50,7 @@ arrays_read t zero at lengths end e =
 arrays_read t (suc n) at lengths end e =
     let (l, q, e₁) = node_parsed (array_headed n t at) (λ k p. refl) (lead array (nowhere 0) t at) e in
     let (is, range) = (leads t at array_lawful (nowhere 0) l).0 q in
-    let (low, high) = two (leb 1 l) (leb l 4096) range in
+    let (low, high) = and_parts (leb 1 l) (leb l 4096) range in
     let (ls, j, p, e₂) = then_parsed (parse_arrays n t (at + 1)) e₁ in
     let a = arrays_read t n (at + 1) ls j p in
     as_parsed (ArraysAt t (suc n) at) e₂
@@ -78,8 +79,8 @@ funcs_read t (suc n) v at fs end e =
     let (gs, j, o, e₃) = then_parsed (parse_funcs n (passed v h) t i) e₂ in
     let a = stmt_read t (entered v h) 16 outermost (at + 1) s i p in
     let b = funcs_read t n (passed v h) i gs j o in
-    let (params, few) = two (leb h.params 8 && leb h.params h.slots) (leb h.slots 32) range in
-    let (low, room) = two (leb h.params 8) (leb h.params h.slots) params in
+    let (params, few) = and_parts (leb h.params 8 && leb h.params h.slots) (leb h.slots 32) range in
+    let (low, room) = and_parts (leb h.params 8) (leb h.params h.slots) params in
     let fits : Words t → InFunc v (func_of h s) =
     λ w.
     record {
@@ -113,8 +114,8 @@ program_read t p end last e =
     let (fs, j, r, e₃) = then_parsed (parse_funcs h.functions (nowhere h.arrays) t i) e₂ in
     let a = arrays_read t h.arrays (0 + 1) ls i o in
     let b = funcs_read t h.functions (nowhere h.arrays) i fs j r in
-    let (functions, arrays) = two (leb 1 h.functions && leb h.functions 16) (leb h.arrays 8) range in
-    let (some, few) = two (leb 1 h.functions) (leb h.functions 16) functions in
+    let (functions, arrays) = and_parts (leb 1 h.functions && leb h.functions 16) (leb h.arrays 8) range in
+    let (some, few) = and_parts (leb 1 h.functions) (leb h.functions 16) functions in
     let u : Program = record { arrays = ls; funcs = fs } in
     let end_is : j ≡ end = cc in
     let none : from t j ≡ [] = drop_of_length-le (records_of t) {i = j} (omega (arith, records_length t)) in
@@ -143,7 +144,7 @@ arrays_written : (t : List ℕ) {lengths : List ℕ} → InArrays lengths → (a
 unfolding parse_arrays headed array list_arrays and_then
 arrays_written t no_array at is = let q : at + 0 ≡ at = omega arith in rw q (refl, is)
 arrays_written t (an_array {n} {lengths} low high h) at is =
-    let (q, on) = leads_on t at array_lawful (nowhere 0) n is (both (le-leb 1 n low) (le-leb n 4096 high)) in
+    let (q, on) = leads_on t at array_lawful (nowhere 0) n is (and_from _ _ (le-leb 1 n low) (le-leb n 4096 high)) in
     let (p, rest) = arrays_written t h (at + 1) on in
     let e : at + suc (length lengths) ≡ at + 1 + length lengths = omega arith in
     rw e (rw (q, p) refl, rest)
@@ -154,8 +155,8 @@ unfolding parse_funcs headed function func_of list_funcs size_fs size_f and_then
 funcs_written t none_left at is = let q : at + 0 ≡ at = omega arith in rw q refl
 funcs_written t {v} (one_more {f} {fs} h r) at is =
     let m = at + 1 + size_s f.body in
-    let params = both (le-leb f.params 8 h.few) (le-leb f.params f.slots h.room) in
-    let (q, on) = leads_on t at function_lawful v (head_of f) is (both params (le-leb f.slots 32 h.slots)) in
+    let params = and_from _ _ (le-leb f.params 8 h.few) (le-leb f.params f.slots h.room) in
+    let (q, on) = leads_on t at function_lawful v (head_of f) is (and_from _ _ params (le-leb f.slots 32 h.slots)) in
     let (p, rest) = stmt_written t (entered v (head_of f)) f.body 16 outermost (at + 1) m on h.deep h.branches h.loops h.body refl in
     let e : at + (suc (size_s f.body) + size_fs fs) ≡ m + size_fs fs = omega arith in
     rw (q, p, funcs_written t r m rest, e) refl
@@ -165,7 +166,7 @@ unfolding parse_program headed program listing and_then
 program_written t p h is =
     let n = length p.funcs in
     let m = length p.arrays in
-    let range = both (both (le-leb 1 n h.some) (le-leb n 16 h.functions)) (le-leb m 8 h.arrays) in
+    let range = and_from _ _ (and_from _ _ (le-leb 1 n h.some) (le-leb n 16 h.functions)) (le-leb m 8 h.arrays) in
     let (q, on) = leads_on t 0 program_lawful (nowhere 0) (record { functions = n; arrays = m }) is range in
     let (o, rest) = arrays_written t h.lengths (0 + 1) on in
     let e : 0 + 1 + m + size_fs p.funcs ≡ records t = omega (arith, listing_size p, records_length t, ap length is) in

@@ -1,6 +1,7 @@
 -- What is read from a table stands there: its records are those of the tree, which is within its ranges and depths. Assumes nothing.
 use mathlib.Core.Path.{◌≡◌, refl, ap, ◌∙◌}
-use mathlib.Core.Bool.{Bool, true, false, ◌&&◌, and-eq-true_iff}
+use mathlib.Core.Bool.{Bool, true, false}
+use Rattle.std.proofs.lemmas.Bool.{and_parts}
 use mathlib.Core.List.{List, ◌∷◌}
 use Prim.Native.Nat.{ℕ, zero, suc, ◌+◌, ◌-◌, ◌*◌, ◌^◌, ◌≤◌, ◌<◌}
 use native.Mathlib.Omega.{arith}
@@ -51,9 +52,6 @@ module _ (t : List ℕ) (v : Env) where
     pub loops : fors_all xs ≤ 8 - n.fors
     pub fits : Words t → Insides v xs
     pub ends : end ≡ at + size_ss xs
-
-pub two : (a b : Bool) → (a && b) ≡ true → (a ≡ true) × (b ≡ true)
-two a b e = (and-eq-true_iff a b).0 e
 
 -- nothing is read at depth 0
 pub deep_never : {A B : Type 0} (at : ℕ) (l : Lead A) {b : B} {j : ℕ} → too_deep at l ≡ parsed b j → ⊥
@@ -121,7 +119,7 @@ module _ (t : List ℕ) (v : Env) where
         let (z, k, q, e₂) = then_parsed (f m) e₁ in
         let a = r (at + 1) y m p in
         let b = r m z k q in
-        let (low, high) = two (leb 1 o) (leb o 15) range in
+        let (low, high) = and_parts (leb 1 o) (leb o 15) range in
         as_parsed (ExprAt t v (suc left) at) e₂
         (record {
           is = rw (code_op o (leb-true 1 o low) (leb-true o 15 high)) (is ∙ ap (write_e (BIN o) ∷◌) (a.is ∙ ap (list_e y) b.is));
@@ -188,7 +186,7 @@ module _ (t : List ℕ) (v : Env) where
     build_stmt f (SEQ p) r is range nested x j e =
         let (ys, m, q, e₁) = then_parsed (sequence f p (at + 1)) e in
         let a = sequence_read left n f r p (at + 1) ys m q in
-        let (low, high) = two (leb 2 p) (leb p 256) range in
+        let (low, high) = and_parts (leb 2 p) (leb p 256) range in
         let c = a.count in
         as_parsed Read e₁
         (record {
@@ -222,7 +220,7 @@ module _ (t : List ℕ) (v : Env) where
     build_stmt f (FOR y lo hi) r is range nested x j e =
         let (s, m, q, e₁) = then_parsed (f (at + 1)) e in
         let a = r (at + 1) s m q in
-        let (slot, order) = two (ltb y v.slots) (leb lo hi) range in
+        let (slot, order) = and_parts (ltb y v.slots) (leb lo hi) range in
         let p : get_or t (at * 4 + 3) 0 ≡ hi = ap (λ (z : Record). z.r) (first_from t at is).1 in
         let small : Words t → hi < 2 ^ 32 = λ w. rw p at (word (words_val w (at * 4 + 3))) in
         as_parsed Read e₁

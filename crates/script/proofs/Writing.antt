@@ -1,6 +1,7 @@
 -- A tree that stands in a table, within its ranges and depths, is read from there. Assumes nothing.
 use mathlib.Core.Path.{◌≡◌, refl, ◌∙◌}
-use mathlib.Core.Bool.{Bool, true, ◌&&◌, and-eq-true_iff}
+use mathlib.Core.Bool.{true}
+use Rattle.std.proofs.lemmas.Bool.{and_from}
 use mathlib.Core.List.{List, ◌∷◌}
 use Prim.Native.Nat.{ℕ, zero, suc, pred, ◌+◌, ◌-◌, ◌≤◌}
 use native.Mathlib.Omega.{arith}
@@ -14,9 +15,6 @@ use Rattle.script.specs.Parse.{Parsed, parsed, and_then, parts, build_e, enter_e
 use Rattle.script.specs.Written.{count_e, count_s, list_e, list_es, list_s, list_ss, depth_e, depth_es, depth_s, depth_ss, ifs, ifs_all, fors, fors_all, InE, InEs, Inside, Insides}
 use Rattle.script.specs.declared.Env.{Env}
 use Rattle.script.proofs.Leading.{from, leads_on, expression_lawful, statement_lawful}
-
-pub both : {a b : Bool} → a ≡ true → b ≡ true → (a && b) ≡ true
-both p q = (and-eq-true_iff _ _).1 (p, q)
 
 module _ (t : List ℕ) (v : Env) where
   -- what was read, and what is left
@@ -58,7 +56,7 @@ module _ (t : List ℕ) (v : Env) where
         let (q, rest) = expr_written x (pred left) (at + 1) end on (omega arith) i (omega arith) in
         (p ∙ rw q refl, rest)
     expr_written (bin o l r) left at end is d i e =
-        let range = both (le-leb 1 (code o) (code_range o).0) (le-leb (code o) 15 (code_range o).1) in
+        let range = and_from _ _ (le-leb 1 (code o) (code_range o).0) (le-leb (code o) 15 (code_range o).1) in
         let (p, on) = head_e_lem (BIN (code o)) left at is range (omega arith) in
         let (q, on₁) = expr_written l (pred left) (at + 1) (at + 1 + size_e l) on (omega arith) i.0 refl in
         let (q₁, rest) = expr_written r (pred left) (at + 1 + size_e l) end on₁ (omega arith) i.1 (omega arith) in
@@ -94,7 +92,7 @@ module _ (t : List ℕ) (v : Env) where
         → ifs x ≤ 8 - n.ifs → fors x ≤ 8 - n.fors → Inside v x → end ≡ at + size_s x → Reads (parse_s left n v t at) x end rest
     stmt_written skip left n at end is d b l i e = leaf e (head_s_lem SKIP left n at is refl refl d)
     stmt_written (seq ss) left n at end is d b l i e =
-        let range = both (le-leb 2 (count_s ss) i.0) (le-leb (count_s ss) 256 i.1) in
+        let range = and_from _ _ (le-leb 2 (count_s ss) i.0) (le-leb (count_s ss) 256 i.1) in
         let (p, on) = head_s_lem (SEQ (count_s ss)) left n at is range refl (omega arith) in
         let (q, rest) = stmts_written ss (pred left) n (at + 1) end on (omega arith) b l i.2 (omega arith) in
         (p ∙ rw q refl, rest)
@@ -112,7 +110,7 @@ module _ (t : List ℕ) (v : Env) where
         let (q₁, rest) = expr_written y 16 (at + 1 + size_e x) end on₁ i.2.1 i.2.0 (omega arith) in
         (p ∙ rw (q, q₁) refl, rest)
     stmt_written (for x lo hi s) left n at end is d b l i e =
-        let range = both (lt-ltb x v.slots i.0) (le-leb lo hi i.1) in
+        let range = and_from _ _ (lt-ltb x v.slots i.0) (le-leb lo hi i.1) in
         let (p, on) = head_s_lem (FOR x lo hi) left n at is range (lt-ltb n.fors 8 (omega arith)) (omega arith) in
         let (q, rest) = stmt_written s (pred left) (inside n (FOR x lo hi)) (at + 1) end on (omega arith) b (omega arith) i.3 (omega arith) in
         (p ∙ rw q refl, rest)

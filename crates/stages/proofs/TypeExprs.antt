@@ -103,7 +103,7 @@ and_true : (a : Bool) → a ≡ a && true
 and_true true = refl
 and_true false = refl
 
-or_clean : (a : First) → a ≡ or_else a clean
+pub or_clean : (a : First) → a ≡ or_else a clean
 unfolding or_else
 or_clean (Ok u) = refl
 or_clean (Err r) = refl

@@ -8,7 +8,8 @@ use tape::held::more;
 use tape::instruction::Instruction;
 use word::Record;
 
-// The record that is written next, held at one more than the limit of 12. No tape has as many.
+// The record that is written next, held at one more than the limit of 12. No tape has as many. The output is lent beside it: a cursor goes by value, and
+// holds no loan.
 #[derive(Clone, Copy, Debug, PartialEq, Eq)]
 pub struct Emitter {
     pub at: usize,

@@ -47,7 +47,7 @@ fn answer(tape: &[u32], stacks: &Stacks, g: Registers) -> Ran
     }
 }
 
-// The run, from inside the exposed function.
+// The run, from inside the exposed function. Arguments, memory and limit as the C function has them.
 fn execute(program: &Program, arguments: &[u32], memory: &mut [u8], limit: u32) -> Ran
     requires { Entered program.now.tape.now program.now.starts program.now.places program.now.first (length arguments.now) (length memory.old) }
     ensures { record { answer = Ok result; memory = memory.new }

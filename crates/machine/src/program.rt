@@ -19,6 +19,7 @@ pub(crate) struct Program<'a> {
     pub first: usize,
 }
 
+// The two halves of Program::new: where the arrays begin, and where the functions do. Without a heap a list is an array, and how much of it is used.
 #[tactic(auto, using(crate::proofs::Tables::some_record))]
 fn lay_out(tape: &[u32]) -> ([u32; 8], u32)
     requires { is_accepted (check tape.now) ≡ true }
@@ -73,6 +74,7 @@ impl<'a> Program<'a> {
         }
     }
 
+    // A read and a write. The memory is the caller's: that the arrays lie in it is asked at each use.
     #[tactic(auto, using(std::proofs::lemmas::Bool::Decides::nat_tests), unfolding(word::specs::Bytes::fetch, word::specs::Bytes::fetch_if))]
     pub(crate) fn load(&self, memory: &[u8], a: u32, i: u32) -> u32
         requires { Stored self.now.tape.now self.now.starts (length memory.now) a }

@@ -5,6 +5,7 @@ ghost use Rattle.machine.specs.Flat.{past_at};
 
 use word::Record;
 
+// Record i. That there is such a record is the caller's to know; word's reader, which asks nothing of its caller, has to answer an Option.
 pub(crate) fn record(tape: &[u32], i: usize) -> Record
     requires { i < records tape.now }
     ensures { result ≡ record_at tape.now i }
@@ -18,7 +19,8 @@ pub(crate) fn record(tape: &[u32], i: usize) -> Record
     }
 }
 
-// The record after the END of the loop whose FOR is record i: the records are passed one by one, and loops in it are counted.
+// The record after the END of the loop whose FOR is record i: the records are passed one by one, and loops in it are counted. A chain would carry the
+// count through its closures.
 #[tactic(auto, using(crate::proofs::Passing::past_straight, crate::proofs::Passing::past_for, crate::proofs::Passing::past_inner, crate::proofs::Passing::past_end, crate::proofs::Passing::past_is, crate::proofs::Passing::past_none))]
 pub(crate) fn past(tape: &[u32], i: usize) -> usize
     requires { i < records tape.now }

@@ -3,7 +3,7 @@ ghost use Rattle.std.specs.Prelude.{◌≡◌, ◌<◌, ◌^◌};
 ghost use Rattle.machine.specs.Flat.{free, count, frame};
 
 // The present record; how many operands and open loops there are; where the present function's slots begin and end; how many calls are
-// open; and the steps counted.
+// open; and the steps counted. That they are small is asked where they count on: a type can't keep it, as each step counts one more.
 #[derive(Clone, Copy)]
 pub(crate) struct Registers {
     pub at: usize,
@@ -15,6 +15,7 @@ pub(crate) struct Registers {
     pub steps: u64,
 }
 
+// Three ways on, by the registers that they set.
 impl Registers {
     // On to a record, for nothing.
     #[tactic(auto, unfolding(crate::specs::Flat::free))]

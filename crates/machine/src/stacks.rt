@@ -30,6 +30,7 @@ pub(crate) struct Stacks {
     pub operands: [u32; 2048],
 }
 
+// Each asks for the room that the check has shown to be there.
 impl Stacks {
     pub(crate) fn literal(&mut self, g: Registers, v: u32) -> Registers
         requires { (g.at < 2 ^ 32) × (g.operands < 2048) }

@@ -13,7 +13,8 @@ pub mod reader;
 pub mod reason;
 pub mod sets;
 
-// Four words to a record.
+// Four words to a record. A kind stays a number: it is tested by the range of the class that is due before it is known that there is such a kind, and p, q
+// and r mean what the kind says.
 #[derive(Clone, Copy, Debug, PartialEq, Eq)]
 pub struct Record {
     pub kind: u32,
@@ -22,7 +23,8 @@ pub struct Record {
     pub r: u32,
 }
 
-// Why a table, a tape or a run is refused: the number of the first condition that fails, and the place of what fails it.
+// Why a table, a tape or a run is refused: the number of the first condition that fails, and the place of what fails it. It keeps the number and not the
+// reason: the definitions say refusals by number, and a file of cases may give a number that is no reason's.
 #[derive(Clone, Copy, Debug, PartialEq, Eq)]
 pub struct Refusal {
     pub number: u32,

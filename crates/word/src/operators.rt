@@ -115,7 +115,7 @@ pub fn logical_or(a: u32, b: u32) -> u32
     masked((a == TRUE) | (b == TRUE))
 }
 
-// The operator with this code.
+// The operator with this code. A code is a word of a record and goes straight to its operator: an enum between them would be this table twice.
 #[tactic(auto, unfolding(crate::specs::Code::op_of))]
 pub fn apply(code: u32, a: u32, b: u32) -> u32
     ensures { result ≡ op (op_of code) a b }

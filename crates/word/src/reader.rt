@@ -7,7 +7,7 @@ ghost use Rattle.word.specs.Refusals.{refusal, required};
 use crate::reason::Reason;
 use crate::{Record, Refusal};
 
-// The record that it stands at.
+// The record that it stands at. The words are lent beside it: it goes by value, and holds no loan.
 #[derive(Clone, Copy, Debug, PartialEq, Eq)]
 pub struct Reader {
     pub at: usize,

@@ -2,7 +2,7 @@
 ghost use Rattle.std.specs.Prelude.{◌≡◌};
 ghost use Rattle.word.specs.Reasons.{number_of};
 
-// 1 to 13 are a script's, 21 to 32 a tape's and a run's. Seven names have one for either, since a table and a tape are read alike.
+// 1 to 13 are a script's, 21 to 32 a tape's and a run's. Six names have one for either, 1 to 6 and 21 to 26, since a table and a tape are read alike.
 #[derive(Clone, Copy, Debug, PartialEq, Eq)]
 pub enum Reason {
     // no words, no whole records, or too many

@@ -1,5 +1,4 @@
 -- The laws that other crates cite, and what the functions' proofs share.
-pub mod Product
 pub mod Laws
 pub mod Memory
 pub mod Records

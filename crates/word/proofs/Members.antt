@@ -1,49 +1,32 @@
 -- A number as a set of slots below 32: what was put into it, or taken out, is so, and nothing else changes. Assumes nothing.
-use Rattle.std.proofs.Common.{◌≡◌, ℕ, zero, suc, ◌+◌, ◌-◌, ◌*◌, ◌/◌, ◌%◌, ◌^◌, ◌<◌, ◌≤◌, Bool, true, false, cond, not, eqb, ltb, sym, refl, ap, ◌∙◌, add-zero, mod-lt, pow-suc, arith, pow_pos, pow-add, ltb-false, ltb-true, le-ltb, lt-ltb, eqb-true}
-use native.Mathlib.Nat.{zero-div, div_self, div-eq_of_lt, mul-div_cancel_left, mul-add-mod_self_right}
+use Rattle.std.proofs.Common.{◌≡◌, ℕ, zero, suc, ◌+◌, ◌/◌, ◌%◌, ◌^◌, ◌<◌, ◌≤◌, Bool, true, false, cond, not, eqb, ltb, sym, refl, ap, ◌∙◌, add-zero, mod-lt, mod-eq_of_lt, arith, ltb-false, ltb-true, le-ltb, lt-ltb, eqb-true}
 use mathlib.Core.Path.{fun_ext}
 use borrow.Author.Tests.{eqb-false}
-use lib.Pow.{pow-lt}
-use lib.Bits.{bit_xor, xor_shr, xor_mod, xor_zero_r}
+use lib.Bits.{bit_xor}
+use Rattle.std.proofs.lemmas.Nat.Bits.{bit_at-pow_same, bit_at-pow_other, bit_at-zero, bit_at_xor}
 use Rattle.word.specs.Slots.{here, upd}
 use Rattle.word.specs.Sets.{has, toggle, turned, put, below}
 
 -- binary digit q of 2^p
 pub digit_same : (p : ℕ) → 2 ^ p / 2 ^ p % 2 ≡ 1
-digit_same p = ap (λ (n : ℕ). n % 2) (div_self (pow_pos p))
-
-even : (j : ℕ) → 2 ^ suc j % 2 ≡ 0
-even j = ap (λ (n : ℕ). n % 2) (pow-suc 2 j ∙ sym (add-zero (2 ^ j * 2))) ∙ mul-add-mod_self_right (2 ^ j) 2 0
-
-above : (q j : ℕ) → 2 ^ (q + suc j) / 2 ^ q % 2 ≡ 0
-above q j = ap (λ (n : ℕ). n / 2 ^ q % 2) (pow-add 2 q (suc j)) ∙ ap (λ (n : ℕ). n % 2) (mul-div_cancel_left (2 ^ suc j) (pow_pos q)) ∙ even j
+digit_same p = bit_at-pow_same p
 
 pub digit_other : (p q : ℕ) (b : Bool) → (q ≡ p → ⊥) → ltb q p ≡ b → 2 ^ p / 2 ^ q % 2 ≡ 0
-digit_other p q true d l =
-    let h = ltb-true q p l in
-    let e : p ≡ q + suc (p - q - 1) = omega arith in
-    ap (λ (n : ℕ). 2 ^ n / 2 ^ q % 2) e ∙ above q (p - q - 1)
-digit_other p q false d l =
-    let h = ltb-false q p l in
-    ap (λ (n : ℕ). n % 2) (div-eq_of_lt (pow-lt {i = p} {j = q} (omega arith)))
+digit_other p q b d l = bit_at-pow_other p q d
 
-flips : (x : ℕ) → x < 2 → eqb (bit_xor x 1) 1 ≡ not (eqb x 1)
+flips : (x : ℕ) → x < 2 → eqb ((x + 1) % 2) 1 ≡ not (eqb x 1)
 flips zero h = refl
 flips (suc zero) h = refl
 flips (suc (suc x)) h = absurd (omega arith)
 
 -- a digit of a set in which p is turned
-split : (w p q : ℕ) → bit_xor w (2 ^ p) / 2 ^ q % 2 ≡ bit_xor (w / 2 ^ q % 2) (2 ^ p / 2 ^ q % 2)
-split w p q = ap (λ (n : ℕ). n % 2) (xor_shr w (2 ^ p) q) ∙ xor_mod (w / 2 ^ q) (2 ^ p / 2 ^ q) 1
-
 turned_here : (w p : ℕ) → eqb (bit_xor w (2 ^ p) / 2 ^ p % 2) 1 ≡ not (eqb (w / 2 ^ p % 2) 1)
-turned_here w p =
-    ap (λ (n : ℕ). eqb n 1) (split w p p ∙ ap (λ (n : ℕ). bit_xor (w / 2 ^ p % 2) n) (digit_same p)) ∙ flips (w / 2 ^ p % 2) (mod-lt _ (omega arith))
+turned_here w p = rw (bit_at_xor w (2 ^ p) p, bit_at-pow_same p) (flips (w / 2 ^ p % 2) (mod-lt _ (omega arith)))
 
 turned_there : (w p q : ℕ) → (q ≡ p → ⊥) → eqb (bit_xor w (2 ^ p) / 2 ^ q % 2) 1 ≡ eqb (w / 2 ^ q % 2) 1
 turned_there w p q d =
-    ap (λ (n : ℕ). eqb n 1)
-    (split w p q ∙ ap (λ (n : ℕ). bit_xor (w / 2 ^ q % 2) n) (digit_other p q (ltb q p) d refl) ∙ xor_zero_r (w / 2 ^ q % 2))
+    let h : w / 2 ^ q % 2 < 2 = mod-lt _ (omega arith) in
+    rw (bit_at_xor w (2 ^ p) q, bit_at-pow_other p q d, add-zero, mod-eq_of_lt h) refl
 
 has_here : (w p : ℕ) → p < 32 → has w p ≡ eqb (w / 2 ^ p % 2) 1
 unfolding has
@@ -83,7 +66,7 @@ unfolding put upd
 has_put w p b s = fun_ext λ q. rw (lt-ltb p 32 s) (by w p q b (eqb q p) s refl)
 
 none_by : (b : Bool) (q : ℕ) → cond b (eqb (0 / 2 ^ q % 2) 1) false ≡ false
-none_by true q = ap (λ (n : ℕ). eqb (n % 2) 1) (zero-div (2 ^ q))
+none_by true q = ap (λ (n : ℕ). eqb n 1) (bit_at-zero q)
 none_by false q = refl
 
 pub has_none : (q : ℕ) → has 0 q ≡ false

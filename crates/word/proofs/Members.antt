@@ -1,11 +1,16 @@
 -- A number as a set of slots below 32: what was put into it, or taken out, is so, and nothing else changes. Assumes nothing.
-use Rattle.std.proofs.Common.{◌≡◌, ℕ, zero, suc, ◌+◌, ◌/◌, ◌%◌, ◌^◌, ◌<◌, ◌≤◌, Bool, true, false, cond, not, eqb, ltb, sym, refl, ap, ◌∙◌, add-zero, mod-lt, mod-eq_of_lt, arith, ltb-false, ltb-true, le-ltb, lt-ltb, eqb-true}
+use Rattle.std.proofs.Common.{◌≡◌, ℕ, zero, suc, ◌+◌, ◌*◌, ◌/◌, ◌%◌, ◌^◌, ◌<◌, ◌≤◌, Bool, true, false, cond, not, eqb, ltb, sym, refl, ap, ◌∙◌, add-zero, one-mul, mod-lt, mod-eq_of_lt, arith, ltb-false, ltb-true, le-ltb, lt-ltb, eqb-true}
 use mathlib.Core.Path.{fun_ext}
 use borrow.Author.Tests.{eqb-false}
 use lib.Bits.{bit_xor}
+use lib.Pow.{pow-lt}
 use Rattle.std.proofs.lemmas.Nat.Bits.{bit_at-pow_same, bit_at-pow_other, bit_at-zero, bit_at_xor}
 use Rattle.word.specs.Slots.{here, upd}
 use Rattle.word.specs.Sets.{has, toggle, turned, put, below}
+
+-- 1 moved up by p places, which stays below 2^32
+pub shifted : (p : ℕ) → p < 32 → 1 * 2 ^ p % 2 ^ 32 ≡ 2 ^ p
+shifted p h = ap (λ (n : ℕ). n % 2 ^ 32) (one-mul (2 ^ p)) ∙ mod-eq_of_lt (pow-lt h)
 
 -- binary digit q of 2^p
 pub digit_same : (p : ℕ) → 2 ^ p / 2 ^ p % 2 ≡ 1

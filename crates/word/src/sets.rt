@@ -9,6 +9,7 @@ pub fn has(members: u32, p: u32) -> bool
     p < 32 && (members >> p) % 2 == 1
 }
 
+#[tactic(auto, using(crate::proofs::Members::shifted), unfolding(crate::specs::Sets::toggle))]
 fn toggle(members: u32, p: u32) -> u32
     requires { p < 32 }
     ensures { result ≡ toggle members p }

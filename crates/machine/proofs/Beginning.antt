@@ -17,7 +17,7 @@ use Rattle.tape.specs.Entries.{Entry, entries_of, entry_at}
 use Rattle.tape.specs.Rules.{stands}
 use Rattle.tape.proofs.Cases.{cfunc_fields}
 use Rattle.tape.proofs.Places.{Passed}
-use Rattle.tape.proofs.Steady.{both}
+use Rattle.std.proofs.lemmas.Bool.{and_parts}
 use Rattle.tape.proofs.Declared.{exposed_there}
 use Rattle.machine.specs.Run.{begin, after}
 use Rattle.machine.specs.Flat.{Flat, flat, sizes, copied, places_of, Entered}
@@ -50,8 +50,8 @@ module _ (t : List ℕ) (m : ℕ) (a : Passed t m) (starts funcs : List ℕ) (fi
       let q = ap (λ (k : ℕ). (record_at t k).q) f ∙ (cfunc_fields (record_at t x.place) x.there.is).1 in
       let n = e.arguments_are ∙ ap (λ (y : Entry). y.params) x.entry in
       let k = asked_at t m a x.place (cfunc x.params x.slots) x.there.there x.there.is in
-      let r = both (leb x.params 8 && leb x.params x.slots) (leb x.slots 64) k.range in
-      let few = leb-true x.params 8 (both (leb x.params 8) (leb x.params x.slots) r.0).0 in
+      let r = and_parts (leb x.params 8 && leb x.params x.slots) (leb x.slots 64) k.range in
+      let few = leb-true x.params 8 (and_parts (leb x.params 8) (leb x.params x.slots) r.0).0 in
       let small = leb-true x.slots 64 r.1 in
       let l = x.there.there in
       record { there = omega arith; slots_are = q; first_is = f; arguments_are = n; few = omega arith; small = omega arith }

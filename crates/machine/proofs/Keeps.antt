@@ -20,7 +20,8 @@ use Rattle.tape.proofs.Reading.{code_from}
 use Rattle.tape.proofs.Places.{scan_at, Passed}
 use Rattle.tape.proofs.Positions.{placed_at, other_kind}
 use Rattle.tape.proofs.Declared.{arrays_here}
-use Rattle.tape.proofs.Steady.{Asks, both}
+use Rattle.std.proofs.lemmas.Bool.{and_parts}
+use Rattle.tape.proofs.Steady.{Asks}
 use Rattle.machine.specs.Flat.{Flat, sizes, pass_left, flat_by, free_by, Room, Callable, Looping, Stored, Ready}
 use Rattle.machine.proofs.Piled.{piled_height}
 use Rattle.machine.proofs.Relation.{Stands, running, finished, looped_height}
@@ -54,7 +55,7 @@ module _ (t : List ℕ) (m : ℕ) (a : Passed t m) (funcs : List ℕ) (s : Flat)
       let k = (record_at t i).kind in
       let c = a.faultless i r.on.on_tape in
       let q = sym (ap (λ (d : Due). due d k) r.on.in_body_lem) ∙ c.kind in
-      leb-true 10 k (both (leb 10 k) (leb k 21) q).0
+      leb-true 10 k (and_parts (leb 10 k) (leb k 21) q).0
 
   step_after : {values : List ℕ} {τ : Slots} {L : List Loop} {F : List Frame} {w : World} (r : Running t s values τ L F w)
       → After t m a funcs Δ s b (read (record_at t s.regs.at)) values τ L F w
@@ -150,7 +151,7 @@ module _ (t : List ℕ) (m : ℕ) (a : Passed t m) (funcs : List ℕ) (s : Flat)
               let u = r.on.low_loops in
               let v = r.on.rank in
               let l = ltb-true (length S.body.loops) 8 k.loops in
-              (omega arith, slot_there x.p (both (ltb x.p S.slots) _ k.range).0);
+              (omega arith, slot_there x.p (and_parts (ltb x.p S.slots) _ k.range).0);
           on_end = λ e k. tt;
           on_ret = λ e k.
               let q = exactly t m a funcs Δ s b r 0 k.operands in
@@ -174,9 +175,9 @@ module _ (t : List ℕ) (m : ℕ) (a : Passed t m) (funcs : List ℕ) (s : Flat)
         let listed : get_or funcs f 0 ≡ place = table f ∙ place_there t m a there in
         let fields = cfunc_fields (record_at t place) there.is in
         let ask = asked_at t m a place (cfunc _ _) there.there there.is in
-        let q = both (leb (known_at S f).params 8 && leb (known_at S f).params p.0) (leb p.0 64) ask.range in
+        let q = and_parts (leb (known_at S f).params 8 && leb (known_at S f).params p.0) (leb p.0 64) ask.range in
         let q₁ = leb-true p.0 64 q.1 in
-        let q₂ = leb-true (known_at S f).params p.0 (both (leb (known_at S f).params 8) _ q.0).1 in
+        let q₂ = leb-true (known_at S f).params p.0 (and_parts (leb (known_at S f).params 8) _ q.0).1 in
         let enough = room t m a funcs Δ s b r (known_at S f).params k.operands in
         let h = piled_height o.piled in
         let y = o.rank in
@@ -205,7 +206,7 @@ module _ (t : List ℕ) (m : ℕ) (a : Passed t m) (funcs : List ℕ) (s : Flat)
         let p = n.opened in
         let ask = asked_at t m a n.f _ p.there p.is in
         let fields = for_fields (record_at t n.f) p.is in
-        let low = ltb-true n.l.slot (scan_at t n.f).slots (both (ltb n.l.slot (scan_at t n.f).slots) _ ask.range).0 in
+        let low = ltb-true n.l.slot (scan_at t n.f).slots (and_parts (ltb n.l.slot (scan_at t n.f).slots) _ ask.range).0 in
         let lim = bounds in
         record {
           some = n.some;

@@ -20,12 +20,12 @@ use Rattle.tape.proofs.Cases.{cfunc_fields}
 use Rattle.tape.proofs.Places.{scan_at, Passed}
 use Rattle.tape.proofs.Entered.{StandsAt}
 use Rattle.tape.proofs.Positions.{placed_at, entry_there}
-use Rattle.tape.proofs.Steady.{both}
+use Rattle.std.proofs.lemmas.Bool.{and_parts}
 use Rattle.machine.specs.Flat.{Flat, flat, count, frame, pick, copied, places_of, flat_by}
 use Rattle.machine.proofs.Piled.{Piled, piled_height, piled_on}
 use Rattle.machine.proofs.Relation.{Looped, On, Under, bottom, above, Stands, finished, Kept, looped_height}
 use Rattle.machine.proofs.Moving.{below_put, Sized, asked_at, scan_next, next_record, under_same, fine}
-use Rattle.machine.proofs.KeepsValues.{arrive, one_more, Here, After, room, exactly}
+use Rattle.machine.proofs.KeepsValues.{arrive, Here, After, room, exactly}
 use Rattle.machine.proofs.Opening.{entering}
 use Rattle.machine.proofs.Tables.{place_there}
 use Rattle.machine.proofs.Handing.{handed, grab_handed, handed_at, piled_drop, copied_below, copied_at}
@@ -77,8 +77,8 @@ module _ (t : List ℕ) (m : ℕ) (a : Passed t m) (funcs : List ℕ) (s : Flat)
         let deep = fine_here.deep in
         let high = fine_here.heights in
         let tall = o.height in
-        let q_small = both (leb params 8 && leb params slots) (leb slots 64) k.range in
-        let p_small = leb-true params slots (both (leb params 8) (leb params slots) q_small.0).1 in
+        let q_small = and_parts (leb params 8 && leb params slots) (leb slots 64) k.range in
+        let p_small = leb-true params slots (and_parts (leb params 8) (leb params slots) q_small.0).1 in
         let s_small = leb-true slots 64 q_small.1 in
         let room : s.regs.top + params ≤ 1024 = omega arith in
         let few : s.regs.calls < 16 = omega arith in
@@ -118,7 +118,7 @@ module _ (t : List ℕ) (m : ℕ) (a : Passed t m) (funcs : List ℕ) (s : Flat)
         (subst (λ (k : ℕ). Under t z k (n - params) s.regs.loops s.regs.top (caller ∷ F)) (sym (add-one s.regs.calls))
         (above (suc i) s.regs.base (get_or-set_same s.backs s.regs.calls (i + 1) 0 (omega (arith, b.backs)) ∙ add-one i)
         (get_or-set_same s.bases s.regs.calls s.regs.base 0 (omega (arith, b.bases))) refl waiting (under_same t m a kept r₀.under)))
-        r₀.bytes (one_more r₀.steps)
+        r₀.bytes (omega (arith, r₀.steps))
 
   -- the table of functions holds where each one begins
   abbrev pub Listed : Type 0
@@ -155,7 +155,7 @@ module _ (t : List ℕ) (m : ℕ) (a : Passed t m) (funcs : List ℕ) (s : Flat)
     off_tape =
         let e : s.regs.operands + 1 - 1 ≡ s.regs.operands = omega arith in
         finished refl (omega arith) (omega arith)
-        (ap (λ (k : ℕ). get_or (put_at s.operands s.regs.operands v) k 0) e ∙ get_or-set_same s.operands s.regs.operands v 0 (omega (arith, b.operands))) bytes (one_more steps)
+        (ap (λ (k : ℕ). get_or (put_at s.operands s.regs.operands v) k 0) e ∙ get_or-set_same s.operands s.regs.operands v 0 (omega (arith, b.operands))) bytes (omega (arith, steps))
 
     -- back in the caller, at record bk
     in_caller : ℕ → ℕ → ℕ → Flat
@@ -194,7 +194,7 @@ module _ (t : List ℕ) (m : ℕ) (a : Passed t m) (funcs : List ℕ) (s : Flat)
           backs = λ j l. refl;
           bases = λ j l. refl;
         }) u)
-        bytes (one_more steps)
+        bytes (omega (arith, steps))
 
     both_ways : {F : List Frame} {floor low c base : ℕ} → Under t s c floor low base F → base ≡ s.regs.base → s.regs.operands ≡ floor → s.regs.loops ≡ low
         → Stands t (pick (eqb c 0) off (in_caller (get_or s.backs (c - 1) 0) (get_or s.bases (c - 1) 0) (c - 1))) (back F v w)

@@ -18,11 +18,11 @@ use Rattle.tape.specs.Entries.{Entry}
 use Rattle.tape.specs.Rules.{World, Loop, Frame, at, tick, pass, again, ending, exec}
 use Rattle.tape.proofs.Cases.{for_fields}
 use Rattle.tape.proofs.Places.{scan_at, Passed}
-use Rattle.tape.proofs.Steady.{both}
+use Rattle.std.proofs.lemmas.Bool.{and_parts}
 use Rattle.machine.specs.Flat.{Flat, flat, free, count, pick, pass_left, flat_by}
 use Rattle.machine.proofs.Relation.{Inside, inside_same, inside_then, Opened, Looped, outside, looped, Stands, looped_height, looped_same}
 use Rattle.machine.proofs.Moving.{below_put, Sized, asked_at, scan_next, next_record, under_same, fine}
-use Rattle.machine.proofs.KeepsValues.{arrive, one_more, Here, After, wider, exactly, slot_agree, slot_room}
+use Rattle.machine.proofs.KeepsValues.{arrive, Here, After, wider, exactly, slot_agree, slot_room}
 
 -- the innermost open loop
 pub record Innermost (t fors passes : List ℕ) (known : List Known) (slots low d : ℕ) (D : Scope) (os : List Open) (L : List Loop) : Type 0 where
@@ -98,7 +98,7 @@ module _ (t : List ℕ) (m : ℕ) (a : Passed t m) (funcs : List ℕ) (Δ : ℕ 
         let d = s.regs.loops in
         let g = scan_next t m a f (for x n.q n.l.to) p.is in
         let k = asked_at t m a f (for x n.q n.l.to) p.there p.is in
-        let range = both (ltb x (scan_at t f).slots) (leb n.q n.l.to) k.range in
+        let range = and_parts (ltb x (scan_at t f).slots) (leb n.q n.l.to) k.range in
         let low = ltb-true x (scan_at t f).slots range.0 in
         let room = slot_room t m a funcs Δ s b r₀ x (omega (arith, p.slots_there)) in
         let due = ap (λ (z : Scan). z.due) g ∙ p.due_there in
@@ -155,7 +155,7 @@ module _ (t : List ℕ) (m : ℕ) (a : Passed t m) (funcs : List ℕ) (Δ : ℕ 
           backs = λ j u. refl;
           bases = λ j u. refl;
         }) r₀.under)
-        r₀.bytes (one_more r₀.steps)))
+        r₀.bytes (omega (arith, r₀.steps))))
 
     -- the loop is over
     last_pass : Stands t (flat (free s.regs (s.regs.at + 1) s.regs.operands (s.regs.loops - 1)) s.fors s.passes s.backs s.bases s.operands s.slots s.memory)

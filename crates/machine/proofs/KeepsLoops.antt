@@ -18,14 +18,14 @@ use Rattle.tape.specs.Faults.{more, readable, asks}
 use Rattle.tape.specs.Entries.{Entry}
 use Rattle.tape.specs.Rules.{World, Loop, Frame, at, tick, past, pass, exec}
 use Rattle.tape.proofs.Places.{scan_at, Passed}
-use Rattle.tape.proofs.Steady.{both}
+use Rattle.std.proofs.lemmas.Bool.{and_parts}
 use Rattle.tape.proofs.Declared.{goes_on}
 use Rattle.tape.proofs.Skipping.{past_loop}
 use Rattle.machine.specs.Flat.{Flat, flat, free, count, pick, past_at, flat_by}
 use Rattle.machine.proofs.Passing.{past_is}
 use Rattle.machine.proofs.Relation.{inside_same, Opened, looped, Stands, looped_height, looped_same}
 use Rattle.machine.proofs.Moving.{below_put, Sized, asked_at, scan_next, next_record, under_same}
-use Rattle.machine.proofs.KeepsValues.{arrive, one_more, Here, After, exactly, slot_agree, slot_room}
+use Rattle.machine.proofs.KeepsValues.{arrive, Here, After, exactly, slot_agree, slot_room}
 
 module _ (t : List ℕ) (m : ℕ) (a : Passed t m) (funcs : List ℕ) (Δ : ℕ → Entry) (s : Flat) (b : Sized s) where
   abbrev Says : Instruction → Type 0
@@ -46,7 +46,7 @@ module _ (t : List ℕ) (m : ℕ) (a : Passed t m) (funcs : List ℕ) (Δ : ℕ 
       let d = s.regs.loops in
       let k = asked_at t m a i (for x q r) o.on_tape e in
       let f = scan_next t m a i (for x q r) e in
-      let range = both (ltb x S.slots) (leb q r) k.range in
+      let range = and_parts (ltb x S.slots) (leb q r) k.range in
       let room = slot_room t m a funcs Δ s b r₀ x (ltb-true x S.slots range.0) in
       let height = looped_height o.loops in
       let deep : d < 128 = let u = o.low_loops in let v = o.rank in let w = ltb-true (length S.body.loops) 8 k.loops in omega arith in
@@ -94,7 +94,7 @@ module _ (t : List ℕ) (m : ℕ) (a : Passed t m) (funcs : List ℕ) (Δ : ℕ 
         backs = λ j u. refl;
         bases = λ j u. refl;
       }) r₀.under)
-      r₀.bytes (one_more r₀.steps)
+      r₀.bytes (omega (arith, r₀.steps))
 
   -- no pass: past the loop
   no_pass : {τ : Slots} {L : List Loop} {F : List Frame} {w : World} → Here t m a funcs Δ s b [] τ L F w → (x q r : ℕ) → Says (for x q r)

@@ -21,7 +21,7 @@ use Rattle.tape.specs.Faults.{readable, asks, takes, just}
 use Rattle.tape.specs.Entries.{Entry}
 use Rattle.tape.specs.Rules.{World, Loop, Frame, at, tick, stored, one, two, exec}
 use Rattle.tape.proofs.Places.{scan_at, Passed}
-use Rattle.tape.proofs.Steady.{both}
+use Rattle.std.proofs.lemmas.Bool.{and_parts}
 use Rattle.machine.specs.Flat.{Flat, flat, free, count, sizes, flat_by}
 use Rattle.machine.specs.declared.registers.Registers.{Registers}
 use Rattle.machine.proofs.Piled.{Piled, bare, piled_height, piled_on, topped, twice, piled_top, piled_two}
@@ -41,9 +41,6 @@ arrive {t} {z} floor low {values} {τ} {L} {F} {w} e o u b k =
     let r = z.regs in
     subst (λ (i : ℕ). Stands t z (at (drop i (code_of t)) values τ L F w)) e
     (running floor low (subst (λ (i : ℕ). On t z i 0 r.operands floor r.loops low r.base r.top r.calls values τ L) (sym e) o) u b k)
-
-pub one_more : {a b : ℕ} → a ≡ b → a + 1 ≡ suc b
-one_more {a} e = add-one a ∙ ap suc e
 
 -- operands from `floor` on change
 pub kept_operands : (s : Flat) (g : Registers) (o : List ℕ) (floor low base calls : ℕ) → ((j : ℕ) → j < floor → get_or o j 0 ≡ get_or s.operands j 0)
@@ -102,7 +99,7 @@ module _ (t : List ℕ) (m : ℕ) (a : Passed t m) where
       unfolding takes
       room k e =
           let n = (scan_at t s.regs.at).body.operands in
-          let c = both (leb k n) _ e in
+          let c = and_parts (leb k n) _ e in
           let h = piled_height r.on.piled in
           let f = r.on.low_floor in
           let q = r.on.rank in
@@ -157,7 +154,7 @@ module _ (t : List ℕ) (m : ℕ) (a : Passed t m) where
         let q = room r 0 k.operands in
         rw (r.on.agree x k.slot)
         (left_at r (var x) 0 1 n _ (n + 1) _ values _ _ e refl (add-one s.regs.at) (floor_low r) (omega arith)
-        (rw (add-one n) (piled_on _ (omega (arith, b.operands)) r.on.piled)) r.bytes (one_more r.steps))
+        (rw (add-one n) (piled_on _ (omega (arith, b.operands)) r.on.piled)) r.bytes (omega (arith, r.steps)))
 
     pub keeps_get : (values : List ℕ) {τ : Slots} {L : List Loop} {F : List Frame} {w : World} → Here values τ L F w → (x : ℕ) → Says (get x) → After (get x) values τ L F w
     unfolding exec flat_by count next asks tick one
@@ -170,7 +167,7 @@ module _ (t : List ℕ) (m : ℕ) (a : Passed t m) where
         let is : fetch (sizes t) s.memory x (get_or s.operands (n - 1) 0) ≡ fetch (sizes t) w.bytes x i = λ j. fetch (sizes t) (r.bytes j) x (top.is j) in
         rw (← is)
         (left_at r (get x) 1 1 (n - 1) _ n _ rest _ _ e refl (add-one s.regs.at) (omega arith) (omega arith)
-        (piled_top _ (omega (arith, b.operands)) r.on.piled) r.bytes (one_more r.steps))
+        (piled_top _ (omega (arith, b.operands)) r.on.piled) r.bytes (omega (arith, r.steps)))
 
     pub keeps_not : (values : List ℕ) {τ : Slots} {L : List Loop} {F : List Frame} {w : World} → Here values τ L F w → Says not → After not values τ L F w
     unfolding exec flat_by count next asks tick one
@@ -182,7 +179,7 @@ module _ (t : List ℕ) (m : ℕ) (a : Passed t m) where
         let h = piled_height top.below in
         rw top.is
         (left_at r not 1 1 (n - 1) _ n _ rest _ _ e refl (add-one s.regs.at) (omega arith) (omega arith)
-        (piled_top _ (omega (arith, b.operands)) r.on.piled) r.bytes (one_more r.steps))
+        (piled_top _ (omega (arith, b.operands)) r.on.piled) r.bytes (omega (arith, r.steps)))
 
     pub keeps_bin : (values : List ℕ) {τ : Slots} {L : List Loop} {F : List Frame} {w : World} → Here values τ L F w → (x : ℕ) → Says (bin x) → After (bin x) values τ L F w
     unfolding exec flat_by count next asks tick two
@@ -195,7 +192,7 @@ module _ (t : List ℕ) (m : ℕ) (a : Passed t m) where
         let h = piled_height pair.below in
         rw (pair.upper, pair.lower)
         (left_at r (bin x) 2 1 (n - 2) _ (n - 1) _ rest _ _ e refl (add-one s.regs.at) (omega arith) (omega arith)
-        (piled_two _ (omega (arith, b.operands)) r.on.piled) r.bytes (one_more r.steps))
+        (piled_two _ (omega (arith, b.operands)) r.on.piled) r.bytes (omega (arith, r.steps)))
 
     -- ---- DEF, SET, PUT: no operands are left
     module _ {values : List ℕ} {τ : Slots} {L : List Loop} {F : List Frame} {w : World} (r : Running t s values τ L F w) where
@@ -253,7 +250,7 @@ module _ (t : List ℕ) (m : ℕ) (a : Passed t m) where
         rw (topped r.on.piled).is
         (stated r (def x) (upd D x defined) _ _ _ _ (upd τ x v) _ _ e refl (add-one s.regs.at) (omega arith) (wider D x defined refl)
         (slot_agree r x v (upd D x defined) l (λ y h d. rw (upd_other D x defined y d) at h)) (λ j h. below_put s.slots (s.regs.base + x) v j (omega arith))
-        r.bytes (one_more r.steps))
+        r.bytes (omega (arith, r.steps)))
     keeps_def (v ∷ u ∷ rest) r x e = let q = exactly r 1 (asked_at t m a _ (def x) r.on.on_tape e).operands in absurd (omega arith)
 
     pub keeps_set : (values : List ℕ) {τ : Slots} {L : List Loop} {F : List Frame} {w : World} → Here values τ L F w → (x : ℕ) → Says (set x) → After (set x) values τ L F w
@@ -266,7 +263,7 @@ module _ (t : List ℕ) (m : ℕ) (a : Passed t m) where
         let l = slot_room r x (ltb-true x _ k.range) in
         rw (topped r.on.piled).is
         (stated r (set x) D _ _ _ _ (upd τ x v) _ _ e refl (add-one s.regs.at) (omega arith) (inside_same D) (slot_agree r x v D l (λ y h d. h))
-        (λ j h. below_put s.slots (s.regs.base + x) v j (omega arith)) r.bytes (one_more r.steps))
+        (λ j h. below_put s.slots (s.regs.base + x) v j (omega arith)) r.bytes (omega (arith, r.steps)))
     keeps_set (v ∷ u ∷ rest) r x e = let q = exactly r 1 (asked_at t m a _ (set x) r.on.on_tape e).operands in absurd (omega arith)
 
     pub keeps_put : (values : List ℕ) {τ : Slots} {L : List Loop} {F : List Frame} {w : World} → Here values τ L F w → (x : ℕ) → Says (put x) → After (put x) values τ L F w
@@ -280,5 +277,5 @@ module _ (t : List ℕ) (m : ℕ) (a : Passed t m) where
         let pair = twice r.on.piled in
         rw (pair.upper, pair.lower)
         (stated r (put x) D _ _ _ _ τ _ _ e refl (add-one s.regs.at) (omega arith) (inside_same D) r.on.agree (λ j h. refl)
-        (ap (λ (b : List ℕ). store (sizes t) b x u v) r.bytes) (one_more r.steps))
+        (ap (λ (b : List ℕ). store (sizes t) b x u v) r.bytes) (omega (arith, r.steps)))
     keeps_put (v ∷ u ∷ z ∷ rest) r x e = let q = exactly r 2 (asked_at t m a _ (put x) r.on.on_tape e).operands in absurd (omega arith)

@@ -19,7 +19,8 @@ use Rattle.tape.proofs.Cases.{read_array, read_program}
 use Rattle.tape.proofs.Reading.{code_from, code_length}
 use Rattle.tape.proofs.Places.{scan_at, Passed}
 use Rattle.tape.proofs.Declaring.{arrays_before, functions_before, length_at, lengths_all, entries_all}
-use Rattle.tape.proofs.Steady.{Fine, fine_at, both}
+use Rattle.std.proofs.lemmas.Bool.{and_parts}
+use Rattle.tape.proofs.Steady.{Fine, fine_at}
 use Rattle.tape.proofs.Entered.{began, StandsAt}
 use Rattle.tape.proofs.Positions.{placed_at, entry_there}
 use Rattle.std.specs.Prelude.{Ok}
@@ -97,7 +98,7 @@ module _ (t : List ℕ) (m : ℕ) (a : Passed t m) where
   first_range =
       let c = a.faultless 0 some_record in
       let r = rw first_is at c.range in
-      leb-true (record_at t 0).q 8 (both (leb 1 (record_at t 0).p && leb (record_at t 0).p 16) (leb (record_at t 0).q 8) r).1
+      leb-true (record_at t 0).q 8 (and_parts (leb 1 (record_at t 0).p && leb (record_at t 0).p 16) (leb (record_at t 0).q 8) r).1
 
   -- record j + 1 is an ARRAY
   is_array_at : (j : ℕ) → (scan_at t (suc j)).due ≡ an_array → suc j ≤ records t → read (record_at t (suc j)) ≡ array (record_at t (suc j)).p
@@ -152,7 +153,7 @@ module _ (t : List ℕ) (m : ℕ) (a : Passed t m) where
       let l = goes_on (suc n) d.1 (ap more d.0 ∙ (unfold more in refl)) in
       let c = a.faultless (suc n) l in
       let r = rw (is_array_at n d.0 d.1) at c.range in
-      leb-true (record_at t (suc n)).p 4096 (both (leb 1 (record_at t (suc n)).p) (leb (record_at t (suc n)).p 4096) r).1
+      leb-true (record_at t (suc n)).p 4096 (and_parts (leb 1 (record_at t (suc n)).p) (leb (record_at t (suc n)).p 4096) r).1
 
   pub one_at_least : 0 < records t
   one_at_least = some_record

@@ -18,7 +18,7 @@ use Rattle.tape.proofs.Cases.{by_kind, read_cfunc}
 use Rattle.tape.proofs.Reading.{code_from}
 use Rattle.tape.proofs.Places.{scan_at, Clean, Passed}
 use Rattle.tape.proofs.Declaring.{one_array, one_function, functions_before, arrays_next, functions_next, entry_at_lem}
-use Rattle.tape.proofs.Steady.{both}
+use Rattle.std.proofs.lemmas.Bool.{and_parts}
 use Rattle.tape.proofs.Entered.{is_body, is_function, is_array, is_program, began, StandsAt, Placed}
 use Rattle.tape.proofs.Placing.{Counts, in_body_lem, ended, entered, listed, began_it}
 
@@ -48,7 +48,7 @@ empty_start t i e = rw e refl
 -- a record of no kind is never due
 pub other_kind : (x : Record) → same x (write other) ≡ true → x.kind ≡ 0
 unfolding same write
-other_kind x e = eqb-true x.kind 0 (both (eqb x.kind 0) _ e).0
+other_kind x e = eqb-true x.kind 0 (and_parts (eqb x.kind 0) _ e).0
 
 pub never_due : (d : Due) (k : ℕ) → more d ≡ true → due d k ≡ true → k ≡ 0 → ⊥
 unfolding due more

@@ -16,7 +16,8 @@ use Rattle.tape.specs.Rules.{past}
 use Rattle.tape.proofs.Cases.{by_kind}
 use Rattle.tape.proofs.Reading.{code_from}
 use Rattle.tape.proofs.Places.{scan_at, Passed}
-use Rattle.tape.proofs.Steady.{Asks, both}
+use Rattle.std.proofs.lemmas.Bool.{and_parts}
+use Rattle.tape.proofs.Steady.{Asks}
 use Rattle.tape.proofs.Positions.{other_kind}
 use Rattle.tape.proofs.Declared.{over_at_end}
 
@@ -122,7 +123,7 @@ module _ (t : List ℕ) (m : ℕ) (a : Passed t m) (known : List Known) (slots :
   elsewhere i front l h low =
       let c = a.faultless i l in
       let q = sym (ap (λ (z : Due). due z (record_at t i).kind) h.due_here) ∙ c.kind in
-      low (leb-true 10 _ (both (leb 10 (record_at t i).kind) (leb (record_at t i).kind 21) q).0)
+      low (leb-true 10 _ (and_parts (leb 10 (record_at t i).kind) (leb (record_at t i).kind 21) q).0)
 
   one : (i : ℕ) (front : List Open) → i < records t → Inner i front → Step i front (read (record_at t i))
   unfolding Step next past

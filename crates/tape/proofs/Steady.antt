@@ -10,6 +10,7 @@ use native.Mathlib.Decide.{ℕ_discrete}
 use borrow.Author.Tests.{eqb-true, eqb-false, leb-true, ltb-true}
 use lib.Dec.{ltb, leb, eqb}
 use lib.ListN.{length, length-append}
+use Rattle.std.proofs.lemmas.Bool.{and_parts}
 use Rattle.word.specs.Slots.{upd, Seen, fixed, defined, Scope, parameter, begin}
 use Rattle.word.specs.Records.{records, record_at}
 use Rattle.word.specs.declared.Record.{Record}
@@ -62,10 +63,6 @@ upd_below {n} D x k h b y q = go (ℕ_discrete y x)
     go (no d) = b y (rw (upd_other D x k y d) at q)
 
 -- ---- tests that passed
-pub both : (a b : Bool) → (a && b) ≡ true → (a ≡ true) × (b ≡ true)
-both true b e = (refl, e)
-both false b e = absurd (false≢true e)
-
 -- a record that is due is no PROGRAM's but at the start
 progress : (d : Due) (k : ℕ) → more d ≡ true → due d k ≡ true → (k ≡ 1 → ⊥) → underway d ≡ true
 unfolding more due underway
@@ -99,7 +96,7 @@ module _ (s : Scan) (f : Fine s) where
   leaving : (n c : ℕ) → more s.due ≡ true → takes n s ≡ true → Fine (in_body s (leaves s.body n c))
   unfolding takes leaves
   leaving n c m e =
-      in_body_lem _ m f.visible f.outer (leb-true (suc (s.body.operands - n)) 128 (both (leb n s.body.operands) _ e).1) f.deep
+      in_body_lem _ m f.visible f.outer (leb-true (suc (s.body.operands - n)) 128 (and_parts (leb n s.body.operands) _ e).1) f.deep
 
   stating : (D : Scope) → more s.due ≡ true → Below s.slots D → Fine (in_body s (states s.body D))
   unfolding states
@@ -209,13 +206,13 @@ fine_next s at x f c =
     by_kind (λ i. Asks s i → Fine (next s at i)) x
     (record {
       on_program = λ e a.
-          let r = (both (leb 1 x.p && leb x.p 16) (leb x.q 8) a.range).0 in
-          let l = both (leb 1 x.p) (leb x.p 16) r in
+          let r = (and_parts (leb 1 x.p && leb x.p 16) (leb x.q 8) a.range).0 in
+          let l = and_parts (leb 1 x.p) (leb x.p 16) r in
           heading x.p x.q (leb-true 1 x.p l.0) (leb-true x.p 16 l.1);
       on_array = λ e a. arraying s f at (u 2 e (λ q. omega arith));
       on_cfunc = λ e a.
-          let r = both (leb x.p 8 && leb x.p x.q) (leb x.q 64) a.range in
-          let l = both (leb x.p 8) (leb x.p x.q) r.0 in
+          let r = and_parts (leb x.p 8 && leb x.p x.q) (leb x.q 64) a.range in
+          let l = and_parts (leb x.p 8) (leb x.p x.q) r.0 in
           entering s f at x.p x.q (u 3 e (λ q. omega arith)) (leb-true x.p x.q l.1) (leb-true x.q 64 r.1);
       on_lit = λ e a. leaving s f 0 0 m a.operands;
       on_var = λ e a. leaving s f 0 1 m a.operands;
@@ -227,7 +224,7 @@ fine_next s at x f c =
       on_set = λ e a. stating s f _ m f.visible;
       on_put = λ e a. stating s f _ m f.visible;
       on_for = λ e a.
-          let r = (both (ltb x.p s.slots) (leb x.q x.r) a.range).0 in
+          let r = (and_parts (ltb x.p s.slots) (leb x.q x.r) a.range).0 in
           looping s f x.p (x.r - x.q) m (ltb-true x.p s.slots r) a.loops;
       on_end = λ e a. closing s f m;
       on_ret = λ e a. returning s f (u 21 e (λ q. omega arith));

@@ -51,11 +51,6 @@ least_of kind = if kind == 11 || kind == 17 || kind == 21 then 1 else 0
 unfoldable pub most_of : ℕ → ℕ
 most_of kind = if kind == 16 || kind == 17 then 1 else (if kind == 19 then 0 else 2)
 
--- ---- before the first record
-abbrev pub beginning : Standing
-beginning =
-    record { due = Program; functions = 0; arrays = 0; known = 0; params = 0; slots = 0; place = 0; operands = 0; steps = 0; deep = 0 }
-
 -- ---- the scan that it stands for
 unfoldable pub due_of : Due → Awaited
 due_of Program = a_program

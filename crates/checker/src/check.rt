@@ -64,7 +64,7 @@ fn scan(tape: &[u32]) -> Result<u32, Refusal>
 {
     let mut functions = Functions::default();
     let mut bodies = Bodies::default();
-    let mut s = Standing::new();
+    let mut s = Standing::default();
     let mut at = Reader::new();
     let mut found = Ok(());
     'scan: while let Some((x, next)) = at.next(tape) {

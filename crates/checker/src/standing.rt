@@ -1,13 +1,9 @@
 // Where the scan of a tape stands: its numbers, which go by value, and its rows, which are lent (specs/Standing says what they stand for).
-ghost use Rattle.std.specs.Prelude.{◌≡◌, slice_index};
-ghost use Rattle.tape.specs.Scan.{start};
-ghost use Rattle.checker.specs.Standing.{beginning, scan_of};
-ghost use Rattle.checker.specs.declared.standing.Functions.{Functions};
-ghost use Rattle.checker.specs.declared.standing.Bodies.{Bodies};
 
 // What is due: PROGRAM, an ARRAY, a CFUNC, a record of a function's body, or nothing more.
-#[derive(Clone, Copy, Debug, PartialEq, Eq)]
+#[derive(Clone, Copy, Debug, Default, PartialEq, Eq)]
 pub(crate) enum Due {
+    #[default]
     Program,
     Array,
     Function,
@@ -17,7 +13,8 @@ pub(crate) enum Due {
 
 // The numbers of the scan: what is due; the functions and arrays of PROGRAM; how many functions are known, their RETs passed; of the present
 // function its parameters, slots and CFUNC; and of its innermost open body the operands that wait, its steps so far, and the loops round it.
-#[derive(Clone, Copy)]
+// The scan begins at the default.
+#[derive(Clone, Copy, Default)]
 pub(crate) struct Standing {
     pub(crate) due: Due,
     pub(crate) functions: u32,
@@ -46,26 +43,4 @@ pub(crate) struct Bodies {
     pub(crate) passes: [u32; 9],
     pub(crate) counts: [u32; 9],
     pub(crate) defs: [u64; 9],
-}
-
-impl Standing {
-    // Before the first record.
-    #[tactic(auto, using(crate::proofs::Rows::scope_begin), unfolding(tape::specs::Scan::start, tape::specs::Scan::opening, crate::specs::Standing::due_of, crate::specs::Standing::known_to, crate::specs::Standing::opens_at, crate::specs::Standing::scan_of))]
-    pub(crate) fn new() -> Self
-        ensures numbers { result ≡ beginning }
-        ensures starts { (f : Functions) (b : Bodies) → slice_index b.defs 0 ≡ 0 → scan_of result f b ≡ start }
-    {
-        Standing {
-            due: Due::Program,
-            functions: 0,
-            arrays: 0,
-            known: 0,
-            params: 0,
-            slots: 0,
-            place: 0,
-            operands: 0,
-            steps: 0,
-            deep: 0,
-        }
-    }
 }

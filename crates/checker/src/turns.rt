@@ -23,7 +23,7 @@ impl Standing {
             due: if x.q == 0 { Due::Function } else { Due::Array },
             functions: x.p,
             arrays: x.q,
-            ..Standing::new()
+            ..Standing::default()
         }
     }
 

@@ -6,16 +6,20 @@ use Rattle.std.proofs.Common.{rules}
 use Rattle.word.specs.Slots.{hidden}
 use Rattle.tape.specs.Faults.{more, fault}
 use Rattle.tape.specs.Check.{at_end}
+use Rattle.checker.specs.declared.standing.Standing.{Standing}
 use Rattle.checker.specs.Standing.{due_of, rank, seen_of, shown_by, scan_of}
 use Rattle.checker.specs.Ready.{said}
 use Rattle.checker.proofs.Clear.{said_ok}
-use Rattle.checker.proofs.Scanned.{stands_first, stands_on}
+use Rattle.checker.proofs.Scanned.{beginning, begins, stands_first, stands_on}
 use Rattle.checker.proofs.Ways.{known_room, room_of, body_room, scan_ends, is_there, fault_stops, searched, further, barred, refused, allowed, slot_stops}
 use Rattle.checker.proofs.check.scan.Goals as goal
 use Rattle.checker.proofs.check.scan.Goals.{in-Some+then-is_err, in-Some+else-is_err+then-bodies-test+then-lt, in-Some+else-is_err+then-outside, else-bodies-test, then-bodies-test+else-lt+then-ne, in_default, Else-outside}
 
 pub scan-init : goal.scan-init
-scan-init c = (refl, rw c.new-at.ensures (stands_first _ _ _ _ (c.new-s.ensures.starts _ _ (c.default-bodies.ensures.1.1.1.at 0 0 (omega arith)))))
+scan-init c =
+    let h = c.default-s.ensures in
+    let zeros : c.default-s.result ≡ beginning = search rules in
+    (refl, rw c.new-at.ensures (stands_first _ _ _ _ (ap (λ (s : Standing). scan_of s c.default-functions.result c.default-bodies.result) zeros ∙ begins _ _ (c.default-bodies.ensures.1.1.1.at 0 0 (omega arith)))))
 
 pub fault-found-requires : goal.fault-found-requires
 fault-found-requires c = known_room c.scan.invariant.1

@@ -58,7 +58,7 @@ impl Standing {
 }
 
 // The scan. The bodies that are open round a record are searched for its slot, from the innermost out, and the scan is left from within the
-// search as soon as what is found forbids the record.
+// search as soon as what is found forbids the record; where it stopped is asked afterwards, so it is a loop with a label.
 fn scan(tape: &[u32]) -> Result<u32, Refusal>
     ensures { result ≡ scan start 0 (records_of tape.now) }
 {

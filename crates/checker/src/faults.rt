@@ -11,14 +11,14 @@ use crate::standing::{Due, Functions, Standing};
 use word::Record;
 use word::reason::Reason;
 
-// 28: so many operands are there to take, and one is left.
+// 28: so many operands are there to take, and one is left. Two comparisons, as 28 says them: a checked difference would have to be tested as well.
 fn takes(operands: u32, n: u32) -> bool
     ensures { result ≡ nat_le n operands && nat_le (suc (operands - n)) 128 }
 {
     n <= operands && operands - n < 128
 }
 
-// The first test that fails.
+// The first test that fails. Four tests here and two for a table, for other reasons: one function for both would be told the reasons at each call.
 #[tactic(auto, unfolding(crate::specs::Ready::said, tape::specs::Faults::unless))]
 fn unmet(blank: bool, range: bool, loops: bool, operands: bool) -> Result<(), Reason>
     ensures { said result ≡ unless blank 24 (unless range 25 (unless loops 27 (unless operands 28 0))) }
@@ -36,7 +36,7 @@ fn unmet(blank: bool, range: bool, loops: bool, operands: bool) -> Result<(), Re
     }
 }
 
-// PROGRAM, ARRAY, CFUNC.
+// PROGRAM, ARRAY, CFUNC. The class was decided by its range; here are the single kinds.
 fn declaration_fault(x: Record) -> Result<(), Reason>
     requires { (1 ≤ x.kind) × (x.kind ≤ 3) }
     ensures { (s : Scan) → said result ≡ fields_fault s x }

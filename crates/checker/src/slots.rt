@@ -13,6 +13,8 @@ pub(crate) enum Seen {
     Fixed,
 }
 
+// A tape's slots are below 64, a table's below 32 (word::sets): one function over u64 and u32 would need a trait with two impls, as long as these
+// lines.
 #[tactic(auto, unfolding(crate::specs::Standing::has))]
 fn has(set: u64, p: u32) -> bool
     ensures { result ≡ has «set» p }

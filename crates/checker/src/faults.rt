@@ -37,6 +37,7 @@ fn unmet(blank: bool, range: bool, loops: bool, operands: bool) -> Result<(), Re
 }
 
 // PROGRAM, ARRAY, CFUNC. The class was decided by its range; here are the single kinds.
+#[tactic(auto, using(tape::proofs::Cases::read_program, tape::proofs::Cases::read_array, tape::proofs::Cases::read_cfunc, crate::proofs::Blanks::blank_p, crate::proofs::Blanks::blank_pq), unfolding(crate::specs::Ready::fields_fault, tape::specs::Instruction::write, tape::specs::Faults::asks, tape::specs::Faults::unmet, tape::specs::Faults::unless))]
 fn declaration_fault(x: Record) -> Result<(), Reason>
     requires { (1 ≤ x.kind) × (x.kind ≤ 3) }
     ensures { (s : Scan) → said result ≡ fields_fault s x }
@@ -70,6 +71,7 @@ impl Functions {
 
 impl Standing {
     // The records of expressions.
+    #[tactic(auto, using(tape::proofs::Cases::read_lit, tape::proofs::Cases::read_var, tape::proofs::Cases::read_get, tape::proofs::Cases::read_not, tape::proofs::Cases::read_bin, tape::proofs::Cases::read_call, crate::proofs::Blanks::blank, crate::proofs::Blanks::blank_p, crate::proofs::Rows::known_length, crate::proofs::Rows::params_at_lem), unfolding(crate::specs::Ready::fields_fault, tape::specs::Instruction::write, tape::specs::Faults::asks, tape::specs::Faults::unmet, tape::specs::Faults::takes, tape::specs::Faults::just, tape::specs::Faults::unless, crate::specs::Standing::scan_of))]
     fn expression_fault(self, x: Record, functions: &Functions) -> Result<(), Reason>
         requires { (10 ≤ x.kind) × (x.kind ≤ 15) × (self.known ≤ 16) }
         ensures { (b : Bodies) → said result ≡ fields_fault (scan_of self functions.now b) x }
@@ -96,6 +98,7 @@ impl Standing {
     }
 
     // The records of statements.
+    #[tactic(auto, using(tape::proofs::Cases::read_def, tape::proofs::Cases::read_set, tape::proofs::Cases::read_put, tape::proofs::Cases::read_for, tape::proofs::Cases::read_end, tape::proofs::Cases::read_ret, crate::proofs::Blanks::blank, crate::proofs::Blanks::blank_p, crate::proofs::Blanks::blank_pqr, crate::proofs::Rows::opens_length), unfolding(crate::specs::Ready::fields_fault, tape::specs::Instruction::write, tape::specs::Faults::asks, tape::specs::Faults::unmet, tape::specs::Faults::takes, tape::specs::Faults::just, tape::specs::Faults::unless, crate::specs::Standing::scan_of))]
     fn statement_fault(self, x: Record) -> Result<(), Reason>
         requires { (16 ≤ x.kind) × (x.kind ≤ 21) }
         ensures { (f : Functions) (b : Bodies) → said result ≡ fields_fault (scan_of self f b) x }

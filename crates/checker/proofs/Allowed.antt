@@ -1,20 +1,22 @@
 -- What a record that has no fault allows the code to do: take operands, look a function up, store into a row. Assumes nothing.
-use Prim.Native.Nat.{ℕ, suc, ◌-◌, ◌≤◌, ◌<◌}
+use Prim.Native.Nat.{ℕ, suc, ◌+◌, ◌-◌, ◌≤◌, ◌<◌}
 use native.Mathlib.Omega.{arith}
-use mathlib.Core.Path.{◌≡◌, sym, ap, ◌∙◌}
+use mathlib.Core.Path.{◌≡◌, refl, sym, ap, ◌∙◌}
 use borrow.Author.Tests.{leb-true, ltb-true}
-use lib.ListN.{length}
+use lib.ListN.{length, get_or}
 use lib.Dec.{leb, ltb}
 use Rattle.word.specs.declared.Record.{Record}
-use Rattle.tape.specs.Instruction.{Instruction, read}
-use Rattle.tape.specs.Scan.{Scan, known_at}
+use Rattle.tape.specs.Instruction.{Instruction, lit, var, get, not, bin, call, read}
+use Rattle.tape.specs.Scan.{Known, Scan, known_at, leaves, in_body}
 use Rattle.tape.specs.Faults.{takes, asks, deep}
 use Rattle.checker.specs.declared.standing.Standing.{Standing}
 use Rattle.checker.specs.declared.standing.Functions.{Functions}
 use Rattle.checker.specs.declared.standing.Bodies.{Bodies}
 use Rattle.checker.specs.Standing.{due_of, known_of, scan_of}
 use Rattle.checker.specs.Ready.{Room, Within, Ready}
-use Rattle.tape.proofs.Cases.{read_call, read_def, read_for, read_end}
+use Rattle.tape.specs.Held.{hold, held}
+use Rattle.checker.proofs.Stores.{call_stands}
+use Rattle.tape.proofs.Cases.{read_lit, read_var, read_get, read_not, read_bin, read_call, read_def, read_for, read_end}
 use Rattle.checker.proofs.Clear.{Met, met}
 use Rattle.checker.proofs.Bounds.{both_left, both_right, room}
 use Rattle.checker.proofs.Rows.{known_length, known_at_lem, opens_length}
@@ -36,6 +38,14 @@ module _ (s : Standing) (f : Functions) (b : Bodies) where
   unfolding scan_of
   called i l = known_at_lem f s.known i l
 
+  -- CALL: the parameters and steps that are kept of it
+  pub call_known : (i : ℕ) → i < s.known
+      → held (in_body (scan_of s f b) (leaves (scan_of s f b).body (known_at (scan_of s f b) i).params (suc (known_at (scan_of s f b) i).steps)))
+      ≡ held (in_body (scan_of s f b) (leaves (scan_of s f b).body (get_or f.params i 0) (hold (get_or f.steps i 0 + 1))))
+  call_known i l =
+      let z = scan_of s f b in
+      ap (λ (g : Known). held (in_body z (leaves z.body g.params (suc g.steps)))) (called i l) ∙ sym (call_stands s f b (get_or f.params i 0) (get_or f.steps i 0))
+
 module _ (s : Standing) (f : Functions) (b : Bodies) (x : Record) (r : Ready (scan_of s f b) x) where
   abbrev z : Scan
   z = scan_of s f b
@@ -55,11 +65,42 @@ module _ (s : Standing) (f : Functions) (b : Bodies) (x : Record) (r : Ready (sc
       let both = sym t ∙ ap (λ (j : Instruction). (asks z j).operands) (sym e) ∙ m.operands in
       (leb-true n s.operands (both_left (leb n s.operands) (leb (suc (s.operands - n)) 128) both), r.within.operands)
 
+  pub lit_of : x.kind ≡ 10 → (0 ≤ s.operands) × (s.operands ≤ 128)
+  unfolding asks
+  lit_of k = takes_of (lit x.p) 0 (read_lit x k) refl
+
+  pub var_of : x.kind ≡ 11 → (0 ≤ s.operands) × (s.operands ≤ 128)
+  unfolding asks
+  var_of k = takes_of (var x.p) 0 (read_var x k) refl
+
+  pub get_of : x.kind ≡ 12 → (1 ≤ s.operands) × (s.operands ≤ 128)
+  unfolding asks
+  get_of k = takes_of (get x.p) 1 (read_get x k) refl
+
+  pub not_of : x.kind ≡ 13 → (1 ≤ s.operands) × (s.operands ≤ 128)
+  unfolding asks
+  not_of k = takes_of not 1 (read_not x k) refl
+
+  pub bin_of : x.kind ≡ 14 → (2 ≤ s.operands) × (s.operands ≤ 128)
+  unfolding asks
+  bin_of k = takes_of (bin x.p) 2 (read_bin x k) refl
+
   pub call_of : x.kind ≡ 15 → x.p < s.known
   unfolding asks
   call_of k =
       let below : x.p < length z.known = ltb-true _ _ (ap (λ (j : Instruction). (asks z j).range) (sym (read_call x k)) ∙ m.range) in
       omega (arith, known_is s f b)
+
+  -- CALL: the function that it names is known
+  called_is : (k : x.kind ≡ 15) → known_at z x.p ≡ known_of f x.p
+  called_is k = called s f b x.p (call_of k)
+
+  pub call_within : x.kind ≡ 15 → x.p < 16
+  call_within k = omega (arith, call_of k, known_within)
+
+  pub call_takes : x.kind ≡ 15 → (get_or f.params x.p 0 ≤ s.operands) × (s.operands ≤ 128)
+  unfolding asks
+  call_takes k = takes_of (call x.p) (get_or f.params x.p 0) (read_call x k) (ap (λ (g : Known). takes g.params z) (called_is k))
 
   pub def_of : x.kind ≡ 16 → x.p < 64
   unfolding asks scan_of

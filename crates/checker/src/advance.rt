@@ -28,7 +28,7 @@ impl Standing {
     }
 
     // The records of expressions.
-    #[tactic(auto, using(tape::proofs::Cases::read_lit, tape::proofs::Cases::read_var, tape::proofs::Cases::read_get, tape::proofs::Cases::read_not, tape::proofs::Cases::read_bin), unfolding(tape::specs::Scan::next))]
+    #[tactic(auto, using(tape::proofs::Cases::read_lit, tape::proofs::Cases::read_var, tape::proofs::Cases::read_get, tape::proofs::Cases::read_not, tape::proofs::Cases::read_bin, crate::proofs::Allowed::lit_of, crate::proofs::Allowed::var_of, crate::proofs::Allowed::get_of, crate::proofs::Allowed::not_of, crate::proofs::Allowed::bin_of, crate::proofs::Allowed::call_within, crate::proofs::Allowed::call_takes, crate::proofs::Allowed::call_of, crate::proofs::Allowed::call_known, tape::proofs::Cases::read_call), unfolding(tape::specs::Scan::next))]
     fn expressed(self, x: Record, functions: &Functions) -> Self
         requires kind { (10 ≤ x.kind) × (x.kind ≤ 15) }
         requires ready { (b : Bodies) × Ready (scan_of self functions.now b) x }

@@ -1,5 +1,5 @@
 // Recursive descent over prefix records: the depth that is left falls at each nested expression and statement, and a reader moves from part to
-// part. Refusals 2 to 5, and 7.
+// part. Refusals 2 to 5, and 7. A table is walked where it lies: there is no heap to make a tree in.
 ghost use Rattle.std.specs.Prelude.{◌≡◌, true, not, ◌&&◌, eqb};
 ghost use Rattle.script.specs.Table.{read_s};
 ghost use Rattle.script.specs.Parse.{parts, parse_e, nests, inside, sequence, parse_s};
@@ -19,7 +19,8 @@ pub struct Nesting {
     pub fors: u32,
 }
 
-// So many expressions, one after another, each with the depth `left`: the reader past them.
+// So many expressions, one after another, each with the depth `left`: the reader past them. This loop and that of statements are alike; each is in a
+// cycle of calls of its own, which one function for both would join.
 #[cycle(expression_expressions)]
 #[tactic(auto, using(crate::proofs::Descending::parts_run, crate::proofs::Descending::run_more, crate::proofs::Descending::run_all))]
 fn expressions(
@@ -78,18 +79,18 @@ fn inside(round: Nesting, x: Record) -> Nesting
     requires { nests (nested round) (read_s x) ≡ true }
     ensures { nested result ≡ inside (nested round) (read_s x) }
 {
-    let mut inner = round;
     let kind = x.kind;
     match kind {
-        35 => {
-            inner.fors += 1;
-        }
-        36 => {
-            inner.ifs += 1;
-        }
-        _ => {}
+        35 => Nesting {
+            fors: round.fors + 1,
+            ..round
+        },
+        36 => Nesting {
+            ifs: round.ifs + 1,
+            ..round
+        },
+        _ => round,
     }
-    inner
 }
 
 // So many statements, one after another, each with the depth `left`: the reader past them.

@@ -28,7 +28,7 @@ fn not_due(at: Reader) -> Result<(), Refusal>
     Err(at.refusal(Reason::TableKind))
 }
 
-// 4 where a word is not as it must be, 5 where a field is out of its range.
+// 4 where a word is not as it must be, 5 where a field is out of its range. A test is told the place, since it makes the refusal.
 fn fields(at: Reader, blank: bool, range: bool) -> Result<(), Refusal>
     ensures { result ≡ cond blank (cond range (Ok tt) (refuse 5 at.at)) (refuse 4 at.at) }
 {
@@ -36,6 +36,7 @@ fn fields(at: Reader, blank: bool, range: bool) -> Result<(), Refusal>
     at.require(range, Reason::TableRange)
 }
 
+// One function for each class: it has one caller, which knows the class, and only expressions and statements are tested against an Env.
 pub fn program_leads(x: Record, at: Reader) -> Result<(), Refusal>
     ensures { (e : Env) → result ≡ leads (lead_by program e x at.at) }
 {
@@ -66,7 +67,7 @@ pub fn function_leads(x: Record, at: Reader) -> Result<(), Refusal>
     }
 }
 
-// The words of an expression's record.
+// The words of an expression's record. The class was decided by its range; here are the single kinds.
 fn expression_fields(x: Record, at: Reader, env: &Env) -> Result<(), Refusal>
     requires { (20 ≤ x.kind) × (x.kind ≤ 28) }
     ensures { result ≡ leads (lead_by expression env.now x at.at) }

@@ -26,7 +26,8 @@ fn arrays(table: &[u32], at: Reader, count: u32) -> Result<Reader, Refusal>
     Ok(here)
 }
 
-// So many functions, each FUNC followed by one statement. Its parameters are known to those after it.
+// So many functions, each FUNC followed by one statement. Its parameters are known to those after it. This is no stage of scoping's walk: that reads
+// what was found in order here, and the Env changes from function to function.
 #[tactic(auto, using(crate::proofs::Programs::functions_more, crate::proofs::Programs::functions_all), unfolding(script::specs::Parse::entered, script::specs::Parse::passed, script::specs::Table::function))]
 fn functions(table: &[u32], at: Reader, count: u32, arrays: u32) -> Result<Reader, Refusal>
     requires { count ≤ 16 }

@@ -1,21 +1,20 @@
 // IFs: the oatmeal script, whose condition a branch changes; a condition that is a number; and how deep IFs may lie.
-ghost use Rattle.std.specs.Prelude.{◌≤◌};
-
 use crate::records::{
     ADD, BIN, DEF, FALSE, FUNC, IF, LT, MUL, NUM, PROGRAM, RETURN, SEQ, SET, SKIP, TRUE, VAR,
 };
 use crate::showing::Case;
+use std::alloc::Global;
 use std::io;
 
-pub fn show_branches(rt: &impl Print) -> io::Result<()> {
+pub fn show_branches(rt: &impl Print, alloc: Global) -> io::Result<()> {
     show_oatmeal(rt, "oatmeal of 10", 10)?;
     show_oatmeal(rt, "oatmeal of 200", 200)?;
     let number = [
         PROGRAM, 1, 0, 0, FUNC, 0, 0, 0, IF, 0, 0, 0, NUM, 1, 0, 0, SKIP, 0, 0, 0, SKIP, 0, 0, 0,
     ];
     Case::new("condition NUM 1", &number).show(rt)?;
-    show_nested(rt, "8 nested IFs", 8)?;
-    show_nested(rt, "9 nested IFs", 9)
+    show_nested(rt, alloc, "8 nested IFs", 8)?;
+    show_nested(rt, alloc, "9 nested IFs", 9)
 }
 
 // f := p < 128; x := p; if f then (f := FALSE; x := x * 2) else x := x + 100; return x. Slots: p 0, f 1, x 2.
@@ -30,36 +29,13 @@ fn show_oatmeal(rt: &impl Print, name: &str, p: u32) -> io::Result<()> {
 }
 
 // So many IFs of TRUE, one within another, each in the first branch of the one round it.
-fn show_nested(rt: &impl Print, name: &str, n: u32) -> io::Result<()> {
-    let mut table = Table {
-        words: [0; 128],
-        len: 0,
-    };
-    table.put(PROGRAM, 1);
-    table.put(FUNC, 0);
+fn show_nested(rt: &impl Print, alloc: Global, name: &str, n: u32) -> io::Result<()> {
+    let mut table = Vec::from_slice(alloc, &[PROGRAM, 1, 0, 0, FUNC, 0, 0, 0])?;
     for _ in 0..n {
-        table.put(IF, 0);
-        table.put(TRUE, 0);
+        table.extend_from_slice(&[IF, 0, 0, 0, TRUE, 0, 0, 0])?;
     }
     for _ in 0..=n {
-        table.put(SKIP, 0);
+        table.extend_from_slice(&[SKIP, 0, 0, 0])?;
     }
-    Case::new(name, &table.words[..table.len]).show(rt)
-}
-
-// A table that is written record by record, where there is room.
-#[derive(Drop)]
-struct Table {
-    words: [u32; 128],
-    len: usize,
-    ghost within: { len ≤ 128 },
-}
-
-impl Table {
-    fn put(&mut self, kind: u32, p: u32) {
-        if self.len + 4 <= self.words.len() {
-            self.words[self.len..self.len + 4].copy_from_slice(&[kind, p, 0, 0]);
-            self.len += 4;
-        }
-    }
+    Case::new(name, &table).show(rt)
 }

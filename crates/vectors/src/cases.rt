@@ -96,7 +96,7 @@ fn one_case(
         }
         Kind::Run => {
             counts.run = plus(counts.run, 1);
-            let tape = cases.words(alloc, GIVEN)?;
+            let tape = cases.list(alloc, GIVEN, |c| c.number())?;
             let fine = run_case(alloc, cases, &tape)?;
             latest.given = Some(tape);
             Ok(fine)

@@ -30,7 +30,7 @@ impl<'a> Cases<'a> {
         value
     }
 
-    fn byte(&mut self) -> u8 {
+    pub fn byte(&mut self) -> u8 {
         let Some((b, rest)) = self.rest.split_first() else {
             return 0;
         };
@@ -38,16 +38,17 @@ impl<'a> Cases<'a> {
         *b
     }
 
-    // A count and so many numbers, of which those within the room are read.
-    pub fn words(&mut self, alloc: Global, room: usize) -> Result<Vec<u32>, AllocError> {
+    // A count and so many items, of which those within the room are read.
+    pub fn list<T: Drop, F: Fn(&mut Cases) -> T>(
+        &mut self,
+        alloc: Global,
+        room: usize,
+        item: F,
+    ) -> Result<Vec<T>, AllocError>
+        requires { (f : F) (c : _) → F.pre f c }
+    {
         let n = (self.number() as usize).min(room);
-        (0..n).map(|_| self.number()).collect(alloc)
-    }
-
-    // A count and so many bytes, of which those within the room are read.
-    pub fn bytes(&mut self, alloc: Global, room: usize) -> Result<Vec<u8>, AllocError> {
-        let n = (self.number() as usize).min(room);
-        (0..n).map(|_| self.byte()).collect(alloc)
+        (0..n).map(|_| item(self)).collect(alloc)
     }
 
     // A count and so many bytes, each after its position: these bytes of the memory are changed.

@@ -19,8 +19,8 @@ enum Wanted {
 
 // Runs the tape on the arguments, memory and limit that stand in the file: whether its answer came out.
 pub fn run_case(alloc: Global, cases: &mut Cases, tape: &[u32]) -> Result<bool, AllocError> {
-    let arguments = cases.words(alloc, ARGUMENTS)?;
-    let mut memory = cases.bytes(alloc, MEMORY)?;
+    let arguments = cases.list(alloc, ARGUMENTS, |c| c.number())?;
+    let mut memory = cases.list(alloc, MEMORY, |c| c.byte())?;
     let mut expected = memory.to_vec(alloc)?;
     let limit = cases.number();
     let wanted = answer(cases, &mut expected);
@@ -29,8 +29,8 @@ pub fn run_case(alloc: Global, cases: &mut Cases, tape: &[u32]) -> Result<bool, 
 
 // Runs the tape to its end: whether the value and the bytes came out.
 pub fn run_plain(alloc: Global, cases: &mut Cases, tape: &[u32]) -> Result<bool, AllocError> {
-    let arguments = cases.words(alloc, ARGUMENTS)?;
-    let mut memory = cases.bytes(alloc, MEMORY)?;
+    let arguments = cases.list(alloc, ARGUMENTS, |c| c.number())?;
+    let mut memory = cases.list(alloc, MEMORY, |c| c.byte())?;
     let mut expected = memory.to_vec(alloc)?;
     let wanted = Wanted::Value(cases.number());
     cases.changes(&mut expected);

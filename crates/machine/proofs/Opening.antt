@@ -1,31 +1,19 @@
 -- A function just entered: its arguments lie in its first slots, it has no operands and no loops yet. Over an accepted tape. Assumes nothing.
-use mathlib.Core.Path.{◌≡◌, refl, sym, ap}
-use mathlib.Core.Bool.{Bool, true, false, false≢true}
+use mathlib.Core.Path.{◌≡◌, sym, ap}
 use mathlib.Core.List.{List, []}
 use Prim.Native.Nat.{ℕ, suc, ◌+◌, ◌*◌, ◌≤◌, ◌<◌}
 use native.Mathlib.Omega.{arith}
-use borrow.Author.Tests.{ltb-true}
-use lib.Dec.{ltb}
 use lib.ListN.{length, get_or}
-use Rattle.word.specs.Slots.{fresh, parameter, begin}
+use Rattle.word.specs.Slots.{fresh}
 use Rattle.tape.specs.Instruction.{cfunc}
 use Rattle.tape.specs.Scan.{Scan, opening, enters, next}
-use Rattle.tape.specs.Faults.{readable}
 use Rattle.tape.proofs.Places.{Passed}
+use Rattle.tape.proofs.Steady.{begin_below}
 use Rattle.tape.proofs.Entered.{StandsAt}
 use Rattle.machine.specs.Flat.{Flat}
 use Rattle.machine.proofs.Piled.{bare}
 use Rattle.machine.proofs.Relation.{On, outside}
 use Rattle.machine.proofs.Moving.{scan_next, next_record}
-
--- a parameter is visible where a function begins, and nothing else
-begin_visible : (p x : ℕ) → readable (begin p x) ≡ true → x < p
-unfolding begin parameter readable
-begin_visible p x = go (ltb x p) refl
-  where
-    go : (b : Bool) → ltb x p ≡ b → readable (parameter b) ≡ true → x < p
-    go true e q = ltb-true x p e
-    go false e q = absurd (false≢true q)
 
 pub entering : (t : List ℕ) (m : ℕ) (a : Passed t m) (z : Flat) {f place params slots : ℕ} (n low base calls : ℕ) (arguments : List ℕ)
     → StandsAt t f place params slots → ((x : ℕ) → x < params → get_or z.slots (base + x) 0 ≡ get_or arguments x 0) → calls + f ≤ 15
@@ -40,7 +28,7 @@ entering t m a z {f} {place} {params} {slots} n low base calls arguments there a
       piled = bare;
       height = omega (arith, ap (λ (y : Scan). y.body.operands) g);
       loops = rw (ap (λ (y : Scan). y.body.loops) g) outside;
-      agree = λ x v. agree x (begin_visible params x (rw (ap (λ (y : Scan). y.body.scope) g) at v));
+      agree = λ x v. agree x (begin_below params params (omega arith) x (rw (ap (λ (y : Scan). y.body.scope) g) at v));
       top_is = ap (λ (y : ℕ). base + y) (sym (ap (λ (y : Scan). y.slots) g));
       rank = omega (arith, ap (λ (y : Scan). length y.known) g, there.rank);
       low_floor = floor;

@@ -71,7 +71,7 @@ past_s (PUT a i e) d c = past_e i d _ ∙ past_e e d _
 past_s (FOR x q r s) d c = past_s s (suc d) (end ∷ c)
 
 -- an END counts where a FOR would
-end_as_for : (b : Bool) (body : Code) → is_free (turn_end b body) ≡ is_free (turn_for b)
+pub end_as_for : (b : Bool) (body : Code) → is_free (turn_end b body) ≡ is_free (turn_for b)
 unfolding is_free turn_end turn_for
 end_as_for true body = refl
 end_as_for false body = refl

@@ -47,7 +47,7 @@ pub record Fine (s : Scan) : Type 0 where
   pub over : s.due ≡ nothing → (length s.known ≡ s.functions) × (1 ≤ s.functions)
 
 -- ---- scopes
-begin_below : (p n : ℕ) → p ≤ n → Below n (begin p)
+pub begin_below : (p n : ℕ) → p ≤ n → Below n (begin p)
 unfolding begin parameter readable
 begin_below p n h x = go (ltb x p) refl
   where

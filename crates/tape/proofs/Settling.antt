@@ -8,6 +8,7 @@ use native.Mathlib.Omega.{arith}
 use native.Mathlib.Nat.{zero-add, suc-add, le_refl}
 use lib.Dec.{ltb}
 use lib.ListN.{length}
+use Rattle.std.proofs.lemmas.Bool.{false≢true}
 use Rattle.word.specs.Slots.{Slots}
 use Rattle.tape.specs.Instruction.{Instruction, Code, program, array, cfunc, lit, var, get, not, bin, call, def, set, put, for, end, ret, other}
 use Rattle.tape.specs.Entries.{Entry}
@@ -15,7 +16,7 @@ use Rattle.tape.specs.Rules.{World, Loop, Frame, Machine, at, halted, stuck, tic
 use Rattle.tape.proofs.Tails.{tail_length, past_tail}
 
 pub clash : {A : Type 0} → false ≡ true → A
-clash h = let z : ◌≡◌ {A = ℕ} 0 1 = cc in absurd (omega arith)
+clash h = absurd (false≢true h)
 
 -- ---- one record
 -- the steps counted, where the machine is not stuck

@@ -2,6 +2,7 @@
 use Prim.Native.Nat.{ℕ, suc, ◌+◌, ◌-◌, ◌≤◌, ◌<◌}
 use native.Mathlib.Omega.{arith}
 use mathlib.Core.Path.{◌≡◌, refl, sym, ap, ◌∙◌}
+use mathlib.Core.Logic.{◌⊎◌}
 use borrow.Author.Tests.{leb-true, ltb-true}
 use lib.ListN.{length, get_or}
 use lib.Dec.{leb, ltb}
@@ -18,7 +19,7 @@ use Rattle.tape.specs.Held.{hold, held}
 use Rattle.checker.proofs.Stores.{call_stands}
 use Rattle.tape.proofs.Cases.{read_lit, read_var, read_get, read_not, read_bin, read_call, read_def, read_for, read_end}
 use Rattle.checker.proofs.Clear.{Met, met}
-use Rattle.checker.proofs.Bounds.{both_left, both_right, room}
+use Rattle.checker.proofs.Bounds.{both_left, both_right, room, kinds}
 use Rattle.checker.proofs.Rows.{known_length, known_at_lem, opens_length}
 
 module _ (s : Standing) (f : Functions) (b : Bodies) where
@@ -121,6 +122,10 @@ module _ (s : Standing) (f : Functions) (b : Bodies) (x : Record) (r : Ready (sc
   end_of k =
       let loops : 0 < deep z = ltb-true _ _ (ap (λ (j : Instruction). (asks z j).loops) (sym (read_end x k)) ∙ m.loops) in
       omega (arith, deep_is s f b)
+
+  -- a kind of no class but the last is RET's
+  pub kinds_of : ((1 ≤ x.kind) × (x.kind ≤ 3)) ⊎ ((10 ≤ x.kind) × (x.kind ≤ 21))
+  kinds_of = kinds z x m
 
   pub ret_of : x.kind ≡ 21 → s.known < 16
   ret_of k =

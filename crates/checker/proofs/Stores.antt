@@ -1,4 +1,4 @@
--- What the code stores at a record is what the scan becomes: DEF, FOR, END and RET on the rows. Assumes nothing.
+-- What the code stores at a record is what the scan becomes: DEF, FOR, END and RET on the rows; SET, PUT and CALL on the numbers. Assumes nothing.
 use Prim.Native.Nat.{ℕ, suc, ◌+◌, ◌-◌, ◌*◌, ◌<◌}
 use native.Mathlib.Omega.{arith}
 use native.Mathlib.Numerals.{add-one}
@@ -9,8 +9,10 @@ use lib.ListN.{length, get_or, set}
 use lib.Seq.{get_or-set_same}
 use lib.Dec.{eqb}
 use Rattle.word.specs.Slots.{upd, defined}
-use Rattle.tape.specs.Instruction.{for, end, ret}
-use Rattle.tape.specs.Scan.{nothing, a_function, leaves, states, opens, close_by, closes, in_body, returns, next}
+use Rattle.tape.specs.Instruction.{for, end, ret, read}
+use Rattle.tape.proofs.Cases.{read_set, read_put}
+use Rattle.word.specs.declared.Record.{Record}
+use Rattle.tape.specs.Scan.{Scan, nothing, a_function, leaves, states, opens, close_by, closes, in_body, returns, next}
 use Rattle.checker.specs.declared.standing.Due.{Due}
 use Rattle.checker.specs.declared.standing.Standing.{Standing}
 use Rattle.tape.specs.Held.{hold, hold_known, held}
@@ -55,6 +57,15 @@ module _ (s : Standing) (f : Functions) (b : Bodies) where
     pub for_stands : (at : ℕ) → scan_of (inner s 0 0 (suc s.deep)) f b' ≡ next (scan_of s f b) at (for x q r)
     unfolding next in_body opens scan_of
     for_stands at = rw (for_loops, scope_for s.params b s.deep x (r - q) s.steps (omega arith) (omega arith))
+
+-- SET and PUT
+pub set_next : (z : Scan) (at : ℕ) (x : Record) → x.kind ≡ 17 → next z at (read x) ≡ in_body z (states z.body z.body.scope)
+unfolding next
+set_next z at x k = rw (read_set x k) refl
+
+pub put_next : (z : Scan) (at : ℕ) (x : Record) → x.kind ≡ 18 → next z at (read x) ≡ in_body z (states z.body z.body.scope)
+unfolding next
+put_next z at x k = rw (read_put x k) refl
 
 -- CALL: the steps of the function that is called, and its own
 pub call_stands : (s : Standing) (f : Functions) (b : Bodies) (n k : ℕ)

@@ -48,7 +48,7 @@ impl Standing {
     }
 
     // The records of statements, but for RET.
-    #[tactic(auto, using(tape::proofs::Cases::read_set, tape::proofs::Cases::read_put), unfolding(tape::specs::Scan::next))]
+    #[tactic(auto, using(tape::proofs::Cases::read_def, tape::proofs::Cases::read_for, tape::proofs::Cases::read_end, crate::proofs::Stores::set_next, crate::proofs::Stores::put_next, crate::proofs::Allowed::deep_below, crate::proofs::Allowed::def_of, crate::proofs::Allowed::for_of, crate::proofs::Allowed::end_of))]
     fn stated(self, x: Record, bodies: &mut Bodies) -> Self
         requires kind { (16 ≤ x.kind) × (x.kind ≤ 20) }
         requires ready { (f : Functions) × Ready (scan_of self f bodies.old) x }
@@ -63,6 +63,7 @@ impl Standing {
         }
     }
 
+    #[tactic(auto, using(tape::proofs::Cases::read_ret, crate::proofs::Allowed::kinds_of, crate::proofs::Allowed::ret_of))]
     pub(crate) fn advance(
         self,
         x: Record,

@@ -1,14 +1,19 @@
 -- A number as a set of slots below 64: what was put into it is in it, and nothing else changes. Assumes nothing.
-use Prim.Native.Nat.{ℕ, zero, suc, ◌/◌, ◌%◌, ◌<◌, ◌^◌}
+use Prim.Native.Nat.{ℕ, zero, suc, ◌/◌, ◌%◌, ◌*◌, ◌<◌, ◌^◌}
 use native.Mathlib.Omega.{arith}
-use native.Mathlib.Nat.{zero-div, mod-lt}
+use native.Mathlib.Nat.{one-mul, zero-div, mod-lt, mod-eq_of_lt}
 use mathlib.Core.Path.{◌≡◌, refl, sym, ap, ◌∙◌}
 use mathlib.Core.Bool.{Bool, true, false, ◌&&◌, ◌||◌}
 use borrow.Author.Tests.{ltb-false, eq-eqb, ne_eqb, eqb-true, eqb-false}
 use lib.Dec.{ltb, eqb}
+use lib.Pow.{pow-lt}
 use lib.Bits.{bit_or, or_shr, or_mod, or_zero_r}
 use Rattle.word.proofs.Members.{digit_same, digit_other}
 use Rattle.checker.specs.Standing.{has, insert}
+
+-- the set of slot p alone is a word of 64 bits
+pub one_bit : (p : ℕ) → p < 64 → 1 * 2 ^ p % 2 ^ 64 ≡ 2 ^ p
+one_bit p h = simp one-mul (mod-eq_of_lt (pow-lt h))
 
 bit : (x : ℕ) → x < 2 → bit_or x 1 ≡ 1
 bit zero h = refl

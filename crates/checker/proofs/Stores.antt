@@ -2,7 +2,7 @@
 use Prim.Native.Nat.{ℕ, suc, ◌+◌, ◌-◌, ◌*◌, ◌<◌}
 use native.Mathlib.Omega.{arith}
 use native.Mathlib.Numerals.{add-one}
-use mathlib.Core.Path.{◌≡◌, refl}
+use mathlib.Core.Path.{◌≡◌, refl, ap, ◌∙◌}
 use mathlib.Core.Bool.{cond}
 use mathlib.Core.List.{[], ◌∷◌, ◌++◌}
 use lib.ListN.{length, get_or, set}
@@ -74,10 +74,18 @@ unfolding in_body leaves scan_of held
 call_stands s f b n k = rw (hold_add_right s.steps (k + 1), add-one k)
 
 -- END
-pub end_stands : (s : Standing) (f : Functions) (b : Bodies) (d at : ℕ) → s.deep ≡ suc d
+end_at : (s : Standing) (f : Functions) (b : Bodies) (d at : ℕ) → s.deep ≡ suc d
     → held (scan_of (inner s 0 (hold (get_or b.counts d 0 + get_or b.passes (suc d) 0 * suc s.steps)) d) f b) ≡ held (next (scan_of s f b) at end)
 unfolding next in_body closes close_by scan_of held opens_at
-end_stands s f b d at e = rw (e, hold_hold)
+end_at s f b d at e = rw (e, hold_hold)
+
+pub end_stands : (s : Standing) (f : Functions) (b : Bodies) (steps at : ℕ) → 0 < s.deep
+    → steps ≡ hold (get_or b.counts (s.deep - 1) 0 + get_or b.passes s.deep 0 * suc s.steps)
+    → held (scan_of (inner s 0 steps (s.deep - 1)) f b) ≡ held (next (scan_of s f b) at end)
+end_stands s f b steps at some h =
+    let e : s.deep ≡ suc (s.deep - 1) = omega arith in
+    let counted = ap (λ (n : ℕ). hold (get_or b.counts (s.deep - 1) 0 + get_or b.passes n 0 * suc s.steps)) e in
+    rw (h ∙ counted) (end_at s f b (s.deep - 1) at e)
 
 -- RET
 module _ (s : Standing) (f : Functions) (lp : length f.params ≡ 16) (ls : length f.steps ≡ 16) (la : length f.places ≡ 16) (known : s.known < 16) (count : ℕ) where

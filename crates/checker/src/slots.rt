@@ -22,6 +22,7 @@ fn has(set: u64, p: u32) -> bool
     p < 64 && (set >> p) % 2 == 1
 }
 
+#[tactic(auto, using(crate::proofs::Sets::one_bit), unfolding(crate::specs::Standing::insert))]
 pub(crate) fn insert(set: u64, p: u32) -> u64
     requires { p < 64 }
     ensures { result ≡ insert «set» p }

@@ -86,6 +86,7 @@ impl Standing {
     }
 
     // DEF puts its slot into the set of the innermost body.
+    #[tactic(auto, using(crate::proofs::Stores::def_stands), unfolding(tape::specs::Scan::next))]
     pub(crate) fn defines(self, p: u32, bodies: &mut Bodies) -> Self
         requires { (self.deep < 9) × (p < 64) }
         ensures { (f : Functions) (at : ℕ) → held (scan_of result f bodies.new) ≡ held (next (scan_of self f bodies.old) at (def p)) }
@@ -96,6 +97,7 @@ impl Standing {
     }
 
     // FOR opens a body; the steps of the one round it wait.
+    #[tactic(auto, using(crate::proofs::Stores::for_stands))]
     pub(crate) fn opens(self, x: Record, bodies: &mut Bodies) -> Self
         requires { (self.deep < 8) × (x.q ≤ x.r) }
         ensures { (f : Functions) (at : ℕ) → scan_of result f bodies.new ≡ next (scan_of self f bodies.old) at (for x.p x.q x.r) }
@@ -114,6 +116,7 @@ impl Standing {
     }
 
     // END closes it: each pass counted its steps and FOR's one.
+    #[tactic(auto, using(crate::proofs::Stores::end_stands))]
     pub(crate) fn closes(self, bodies: &Bodies) -> Self
         requires { (0 < self.deep) × (self.deep < 9) }
         ensures { (f : Functions) (at : ℕ) → held (scan_of result f bodies.now) ≡ held (next (scan_of self f bodies.now) at end) }

@@ -3,6 +3,7 @@ use Prim.Native.Nat.{ℕ, suc, ◌+◌, ◌-◌, ◌≤◌, ◌<◌}
 use native.Mathlib.Omega.{arith}
 use mathlib.Core.Path.{◌≡◌, refl, sym, ap, ◌∙◌}
 use mathlib.Core.Logic.{◌⊎◌}
+use Rattle.std.proofs.lemmas.Bool.{and_parts}
 use borrow.Author.Tests.{leb-true, ltb-true}
 use lib.ListN.{length, get_or}
 use lib.Dec.{leb, ltb}
@@ -19,7 +20,7 @@ use Rattle.tape.specs.Held.{hold, held}
 use Rattle.checker.proofs.Stores.{call_stands}
 use Rattle.tape.proofs.Cases.{read_lit, read_var, read_get, read_not, read_bin, read_call, read_def, read_for, read_end}
 use Rattle.checker.proofs.Clear.{Met, met}
-use Rattle.checker.proofs.Bounds.{both_left, both_right, room, kinds}
+use Rattle.checker.proofs.Bounds.{room, kinds}
 use Rattle.checker.proofs.Rows.{known_length, known_at_lem, opens_length}
 
 module _ (s : Standing) (f : Functions) (b : Bodies) where
@@ -64,7 +65,7 @@ module _ (s : Standing) (f : Functions) (b : Bodies) (x : Record) (r : Ready (sc
   unfolding takes scan_of
   takes_of i n e t =
       let both = sym t ∙ ap (λ (j : Instruction). (asks z j).operands) (sym e) ∙ m.operands in
-      (leb-true n s.operands (both_left (leb n s.operands) (leb (suc (s.operands - n)) 128) both), r.within.operands)
+      (leb-true n s.operands ((and_parts (leb n s.operands) (leb (suc (s.operands - n)) 128) both).0), r.within.operands)
 
   pub lit_of : x.kind ≡ 10 → (0 ≤ s.operands) × (s.operands ≤ 128)
   unfolding asks
@@ -115,7 +116,7 @@ module _ (s : Standing) (f : Functions) (b : Bodies) (x : Record) (r : Ready (sc
   for_of k =
       let loops : deep z < 8 = ltb-true _ _ (ap (λ (j : Instruction). (asks z j).loops) (sym (read_for x k)) ∙ m.loops) in
       let range = ap (λ (j : Instruction). (asks z j).range) (sym (read_for x k)) ∙ m.range in
-      (omega (arith, deep_is s f b), leb-true x.q x.r (both_right (ltb x.p z.slots) (leb x.q x.r) range))
+      (omega (arith, deep_is s f b), leb-true x.q x.r ((and_parts (ltb x.p z.slots) (leb x.q x.r) range).1))
 
   pub end_of : x.kind ≡ 20 → 0 < s.deep
   unfolding asks

@@ -5,6 +5,7 @@ use mathlib.Core.Path.{◌≡◌, refl, sym, ap, ◌∙◌}
 use mathlib.Core.Logic.{◌⊎◌, inl, inr}
 use mathlib.Core.Bool.{Bool, true, false, cond, ◌&&◌, false≢true}
 use mathlib.Core.List.{List, [], ◌∷◌, ◌++◌}
+use Rattle.std.proofs.lemmas.Bool.{and_parts}
 use borrow.Author.Tests.{leb-true, ltb-true, eqb-true, eqb-false}
 use lib.ListN.{length, length-append}
 use lib.Dec.{leb, ltb, eqb}
@@ -19,15 +20,6 @@ use Rattle.checker.proofs.Clear.{Met, passed, left}
 pub start_within : Within start
 unfolding start opening
 start_within = record { functions = omega arith; known = omega arith; room = tt; slots = omega arith; operands = omega arith; loops = omega arith }
-
--- ---- both of two tests
-pub both_left : (a b : Bool) → a && b ≡ true → a ≡ true
-both_left true b e = refl
-both_left false b e = absurd (false≢true e)
-
-pub both_right : (a b : Bool) → a && b ≡ true → b ≡ true
-both_right true b e = e
-both_right false b e = absurd (false≢true e)
 
 -- ---- one more function is due
 is_program : Instruction → Bool
@@ -71,7 +63,7 @@ either false d e k n h l = l
 leaves_within : (s : Scan) (n c : ℕ) → Within s → takes n s ≡ true → Within (in_body s (leaves s.body n c))
 unfolding in_body leaves takes
 leaves_within s n c w t =
-    let most = leb-true _ _ (both_right (leb n s.body.operands) (leb (suc (s.body.operands - n)) 128) t) in
+    let most = leb-true _ _ ((and_parts (leb n s.body.operands) (leb (suc (s.body.operands - n)) 128) t).1) in
     record { functions = w.functions; known = w.known; room = w.room; slots = w.slots; operands = most; loops = w.loops }
 
 closed_loops : (b : Body) (os : List Open) → length b.loops ≤ 8 → length os ≤ 8 → length (close_by b os).loops ≤ 8
@@ -119,16 +111,16 @@ module _ (s : Scan) (at : ℕ) (x : Record) (w : Within s) (m : Met s x) where
   by : (i : Instruction) → read x ≡ i → Within (next s at i)
   unfolding next asks is_program headed arrayed enters opening in_body states opens closes
   by (program p q) e =
-      let r = range (program p q) e in
-      let low = leb-true 1 p (both_left (leb 1 p) (leb p 16) (both_left (leb 1 p && leb p 16) (leb q 8) r)) in
-      let high = leb-true p 16 (both_right (leb 1 p) (leb p 16) (both_left (leb 1 p && leb p 16) (leb q 8) r)) in
+      let functions = and_parts (leb 1 p) (leb p 16) (and_parts (leb 1 p && leb p 16) (leb q 8) (range (program p q) e)).0 in
+      let low = leb-true 1 p functions.0 in
+      let high = leb-true p 16 functions.1 in
       record { functions = high; known = omega arith; room = either (eqb q 0) a_function an_array 0 p low low; slots = omega arith; operands = omega arith; loops = omega arith }
   by (array n) e =
       let r = later (array n) e refl in
       record { functions = w.functions; known = w.known; room = either (ltb at s.arrays) an_array a_function _ _ r r; slots = w.slots; operands = w.operands; loops = w.loops }
   by (cfunc p q) e =
       let r = later (cfunc p q) e refl in
-      let most = leb-true q 64 (both_right (leb p 8 && leb p q) (leb q 64) (range (cfunc p q) e)) in
+      let most = leb-true q 64 ((and_parts (leb p 8 && leb p q) (leb q 64) (range (cfunc p q) e)).1) in
       record { functions = w.functions; known = w.known; room = r; slots = most; operands = omega arith; loops = omega arith }
   by (lit v) e = leaves_within s 0 0 w (operands (lit v) e)
   by (var y) e = leaves_within s 0 1 w (operands (var y) e)
@@ -163,7 +155,7 @@ unfolding more due
 kinds_by a_program k m e = let h = eqb-true k 1 e in inl (omega arith)
 kinds_by an_array k m e = let h = eqb-true k 2 e in inl (omega arith)
 kinds_by a_function k m e = let h = eqb-true k 3 e in inl (omega arith)
-kinds_by a_body k m e = inr (leb-true 10 k (both_left (leb 10 k) (leb k 21) e), leb-true k 21 (both_right (leb 10 k) (leb k 21) e))
+kinds_by a_body k m e = let both = and_parts (leb 10 k) (leb k 21) e in inr (leb-true 10 k both.0, leb-true k 21 both.1)
 kinds_by nothing k m e = absurd (false≢true m)
 
 pub kinds_clear : (s : Scan) (x : Record) → fault_but s x ≡ 0 → ((1 ≤ x.kind) × (x.kind ≤ 3)) ⊎ ((10 ≤ x.kind) × (x.kind ≤ 21))

@@ -3,11 +3,11 @@ use Prim.Native.Nat.{ℕ, suc, ◌≤◌, ◌<◌}
 use native.Mathlib.Nat.{eq-or-lt_of_le}
 use native.Mathlib.Omega.{arith}
 use mathlib.Core.Path.{◌≡◌, refl, sym, ap, subst, ◌∙◌}
-use mathlib.Core.Logic.{⊎_elim, ◌⊎◌, inl, inr}
+use mathlib.Core.Logic.{⊎_elim, ◌⊎◌}
 use mathlib.Core.Bool.{Bool, true, false, cond, ◌||◌}
 use mathlib.Core.Bool.{not as negated}
-use borrow.Author.Tests.{leb-true, leb-false}
-use lib.Dec.{leb, ltb, eqb}
+use Rattle.std.proofs.lemmas.Bool.{cases_lt}
+use lib.Dec.{ltb, eqb}
 use Rattle.word.specs.Slots.{Seen, hidden, fixed, defined}
 use Rattle.word.specs.declared.Record.{Record}
 use Rattle.tape.specs.Instruction.{Instruction, program, array, cfunc, lit, var, get, not, bin, call, def, set, put, for, end, ret, read}
@@ -68,10 +68,6 @@ from P a k h here later = ⊎_elim (λ e. subst P e here) later (eq-or-lt_of_le 
 last : (P : ℕ → Type 0) (a k : ℕ) → a ≤ k → k ≤ a → P a → P k
 last P a k h l here = let e : a ≡ k = omega arith in subst P e here
 
-low_or_high : (k m : ℕ) (t : Bool) → leb k m ≡ t → (k ≤ m) ⊎ (m < k)
-low_or_high k m true e = inl (leb-true k m e)
-low_or_high k m false e = inr (leb-false k m e)
-
 module _ (s : Standing) (f : Functions) (b : Bodies) (x : Record) (n : ℕ) where
   abbrev z : Scan
   z = scan_of s f b
@@ -116,10 +112,10 @@ module _ (s : Standing) (f : Functions) (b : Bodies) (x : Record) (n : ℕ) wher
       from Rule 20 k l (λ e. by end none 0 2 (read_end x e) (any none)) (λ l.
       last Rule 21 k l h (λ e. by (ret x.p) seen 1 2 (read_ret x e) (reads seen)))))))
 
-  body : (k : ℕ) → (k ≤ 15) ⊎ (15 < k) → 10 ≤ k → k ≤ 21 → Rule k
-  body k c l h = ⊎_elim (λ low. expressions k l low) (λ high. statements k high h) c
+  body : (k : ℕ) → (15 < k) ⊎ (k ≤ 15) → 10 ≤ k → k ≤ 21 → Rule k
+  body k c l h = ⊎_elim (λ high. statements k high h) (λ low. expressions k l low) c
 
   pub slot_rule : ((1 ≤ x.kind) × (x.kind ≤ 3)) ⊎ ((10 ≤ x.kind) × (x.kind ≤ 21))
       → n ≡ rank (scope_at s.params b (searched_of x.kind s.deep) x.p) → (asks z (read x)).slot ≡ between (least_of x.kind) (most_of x.kind) n
   slot_rule kind =
-      ⊎_elim (λ h. declarations x.kind h.0 h.1 refl) (λ h. body x.kind (low_or_high x.kind 15 (leb x.kind 15) refl) h.0 h.1 refl) kind
+      ⊎_elim (λ h. declarations x.kind h.0 h.1 refl) (λ h. body x.kind (cases_lt 15 x.kind) h.0 h.1 refl) kind

@@ -13,7 +13,8 @@ pub(crate) enum Due {
 
 // The numbers of the scan: what is due; the functions and arrays of PROGRAM; how many functions are known, their RETs passed; of the present
 // function its parameters, slots and CFUNC; and of its innermost open body the operands that wait, its steps so far, and the loops round it.
-// The scan begins at the default.
+// The scan begins at the default. That `known` and `deep` are bounded is asked where it is needed: a ghost field that said it would forbid `..self`,
+// of which the turns are made, and the derived default.
 #[derive(Clone, Copy, Default)]
 pub(crate) struct Standing {
     pub(crate) due: Due,

@@ -1,7 +1,7 @@
 // The cases, one after another, and what is counted of them.
 use crate::compiling::{Compiled, compile_case};
 use crate::decoding::Cases;
-use crate::running::{run_case, run_plain};
+use crate::running::{plain_value, run_answer, run_case};
 use std::alloc::{AllocError, Global};
 use std::fmt;
 use word::operators::plus;
@@ -97,17 +97,22 @@ fn one_case(
         Kind::Run => {
             counts.run = plus(counts.run, 1);
             let tape = cases.list(alloc, GIVEN, |c| c.number())?;
-            let fine = run_case(alloc, cases, &tape)?;
+            let fine = run_case(alloc, cases, &tape, run_answer)?;
             latest.given = Some(tape);
             Ok(fine)
         }
         Kind::Plain => {
             counts.plain = plus(counts.plain, 1);
-            run_plain(alloc, cases, &latest.own)
+            run_case(alloc, cases, &latest.own, plain_value)
         }
         Kind::RunLast => {
             counts.run = plus(counts.run, 1);
-            run_case(alloc, cases, latest.given.as_ref().unwrap_or(&latest.own))
+            run_case(
+                alloc,
+                cases,
+                latest.given.as_ref().unwrap_or(&latest.own),
+                run_answer,
+            )
         }
     }
 }

@@ -11,45 +11,55 @@ const MEMORY: usize = 32768;
 
 // What stands in the file: a run's answer, a plain meaning's value, or what no run answers.
 #[derive(Clone, Copy, Debug, PartialEq, Eq)]
-enum Wanted {
+pub enum Wanted {
     Answer(Result<Ran, Refusal>),
     Value(u32),
     Nothing,
 }
 
-// Runs the tape on the arguments, memory and limit that stand in the file: whether its answer came out.
-pub fn run_case(alloc: Global, cases: &mut Cases, tape: &[u32]) -> Result<bool, AllocError> {
+impl Wanted {
+    fn is(self, ran: Result<Ran, Refusal>) -> bool {
+        match self {
+            Wanted::Answer(answer) => ran == answer,
+            Wanted::Value(wanted) => matches!(ran, Ok(Ran::Done { value, .. }) if value == wanted),
+            Wanted::Nothing => false,
+        }
+    }
+}
+
+// Runs the tape on the arguments and memory that stand in the file: whether the answer and the bytes came out. `expect` reads the limit and the answer, and
+// makes the file's changes in the memory that it is given.
+pub fn run_case<F: Fn(&mut Cases, &mut [u8]) -> (u32, Wanted)>(
+    alloc: Global,
+    cases: &mut Cases,
+    tape: &[u32],
+    expect: F,
+) -> Result<bool, AllocError>
+    requires { F.IsAlwaysCallable expect }
+{
     let arguments = cases.list(alloc, ARGUMENTS, |c| c.number())?;
     let mut memory = cases.list(alloc, MEMORY, |c| c.byte())?;
     let mut expected = memory.to_vec(alloc)?;
+    let (limit, wanted) = expect(cases, &mut expected);
+    let ran = machine::run(tape, &arguments, &mut memory, limit);
+    Ok(wanted.is(ran) && memory == expected)
+}
+
+// A run's limit and its answer. A refusal leaves the memory as it was.
+pub fn run_answer(cases: &mut Cases, memory: &mut [u8]) -> (u32, Wanted) {
     let limit = cases.number();
-    let wanted = answer(cases, &mut expected);
-    Ok(comes_out(tape, &arguments, &mut memory, limit, wanted) && memory == expected)
-}
-
-// Runs the tape to its end: whether the value and the bytes came out.
-pub fn run_plain(alloc: Global, cases: &mut Cases, tape: &[u32]) -> Result<bool, AllocError> {
-    let arguments = cases.list(alloc, ARGUMENTS, |c| c.number())?;
-    let mut memory = cases.list(alloc, MEMORY, |c| c.byte())?;
-    let mut expected = memory.to_vec(alloc)?;
-    let wanted = Wanted::Value(cases.number());
-    cases.changes(&mut expected);
-    Ok(comes_out(tape, &arguments, &mut memory, u32::MAX, wanted) && memory == expected)
-}
-
-// The answer in the file. Its changes are made in the memory, which a refusal leaves as it was.
-fn answer(cases: &mut Cases, memory: &mut [u8]) -> Wanted {
     let case = cases.number();
     let first = cases.number();
     let second = cases.number();
     if case == 2 {
-        return Wanted::Answer(Err(Refusal {
+        let refusal = Refusal {
             number: first,
             place: second as usize,
-        }));
+        };
+        return (limit, Wanted::Answer(Err(refusal)));
     }
     cases.changes(memory);
-    match case {
+    let wanted = match case {
         0 => Wanted::Answer(Ok(Ran::Done {
             value: first,
             steps: second,
@@ -60,20 +70,13 @@ fn answer(cases: &mut Cases, memory: &mut [u8]) -> Wanted {
         })),
         3 => Wanted::Value(first),
         _ => Wanted::Nothing,
-    }
+    };
+    (limit, wanted)
 }
 
-fn comes_out(
-    tape: &[u32],
-    arguments: &[u32],
-    memory: &mut [u8],
-    limit: u32,
-    wanted: Wanted,
-) -> bool {
-    let ran = machine::run(tape, arguments, memory, limit);
-    match wanted {
-        Wanted::Answer(answer) => ran == answer,
-        Wanted::Value(wanted) => matches!(ran, Ok(Ran::Done { value, .. }) if value == wanted),
-        Wanted::Nothing => false,
-    }
+// A plain meaning's value, for a run to its end.
+pub fn plain_value(cases: &mut Cases, memory: &mut [u8]) -> (u32, Wanted) {
+    let value = cases.number();
+    cases.changes(memory);
+    (u32::MAX, Wanted::Value(value))
 }

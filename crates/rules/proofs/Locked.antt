@@ -21,7 +21,7 @@ use Rattle.tape.specs.Rules.{World, Loop, Frame, Machine, at as machine, tick, s
 use Rattle.tape.proofs.Meaning.{State, CFun, assign, cpasses, cvalue, cvalues, crun, cmeaning}
 use Rattle.tape.proofs.Sound.{arguments, after_s, SoundE, SoundEs, SoundS, SoundF}
 use Rattle.tape.proofs.Entering.{entry_of}
-use Rattle.tape.proofs.Follows.{onto, grab_all, past_s}
+use Rattle.tape.proofs.Follows.{onto, grab_all, past_s, end_as_for}
 use Rattle.rules.specs.Configurations.{Subst, Local, empty, bind, Term, val, var, body, nil, skip, for, Fval, vals, Configuration, at, load, loads, load_s, fval}
 use Rattle.rules.specs.Reduction.{Deed, reads, calls, quiet, counts, Reduces, EXR-VAR, EXR-ARR-GET-VAL, EXR-UNOP-VAL, EXR-BINOP-VAL, EXR-SUBST-VAR, EXR-SUBST-NO-VAR, EXR-FN-CALL, EXR-SKIP-VAL, EXR-SEQ-SKIP, EXR-DEF-VAL, EXR-ASSIGN-VAL, EXR-ARR-ASSIGN-VAL, EXR-FOR, EXR-ADD-SUBST, EXR-FOR-BASE}
 use Rattle.rules.specs.Correspondence.{with1, with2, taken, passing, renewing, deed}
@@ -41,11 +41,6 @@ unfolding taken
 takes_all p vs s q =
     let e : p ≡ length vs + 0 = omega arith in
     ap (λ (j : ℕ). taken j (onto vs s) []) e ∙ takes vs s [] 0 ∙ append-nil vs
-
-end_as_for : (b : Bool) (B : Code) → is_free (turn_end b B) ≡ is_free (turn_for b)
-unfolding is_free turn_end turn_for
-end_as_for true B = refl
-end_as_for false B = refl
 
 module _ (lengths : List ℕ) (Δ : ℕ → Entry) (Λ : ℕ → Fval) where
   -- from one pair to a later one: a quiet reduction, a record that counts nothing, or one counted step of both

@@ -1,4 +1,5 @@
-// Sets of slots, one u32 for each: slot p is a member if bit p is set. A slot is below 32; no other number is ever a member.
+// Sets of slots, one u32 for each: slot p is a member if bit p is set. A slot is below 32; no other number is ever a member. A set is the bare word that the
+// definitions speak of: a type round it would be opened again in each of their laws.
 ghost use Rattle.std.specs.Prelude.{◌≡◌, ◌<◌};
 ghost use Rattle.word.specs.Sets.{has, toggle, put, below};
 

@@ -12,13 +12,6 @@ use Rattle.word.specs.Sets.{has, toggle, turned, put, below}
 pub shifted : (p : ℕ) → p < 32 → 1 * 2 ^ p % 2 ^ 32 ≡ 2 ^ p
 shifted p h = ap (λ (n : ℕ). n % 2 ^ 32) (one-mul (2 ^ p)) ∙ mod-eq_of_lt (pow-lt h)
 
--- binary digit q of 2^p
-pub digit_same : (p : ℕ) → 2 ^ p / 2 ^ p % 2 ≡ 1
-digit_same p = bit_at-pow_same p
-
-pub digit_other : (p q : ℕ) (b : Bool) → (q ≡ p → ⊥) → ltb q p ≡ b → 2 ^ p / 2 ^ q % 2 ≡ 0
-digit_other p q b d l = bit_at-pow_other p q d
-
 flips : (x : ℕ) → x < 2 → eqb ((x + 1) % 2) 1 ≡ not (eqb x 1)
 flips zero h = refl
 flips (suc zero) h = refl

@@ -47,9 +47,7 @@ fn expression(table: &[u32], at: Reader, left: u32, env: &Env) -> Result<Reader,
 {
     let (x, next) = due(table, at)?;
     expression_leads(x, at, env)?;
-    if left == 0 {
-        return Err(at.refusal(Reason::TooDeep));
-    }
+    at.require(left != 0, Reason::TooDeep)?;
     let count = parts_in(x, &env.params);
     if count == 0 {
         return Ok(next);
@@ -127,9 +125,7 @@ fn statement(
 {
     let (x, next) = due(table, at)?;
     statement_leads(x, at, env)?;
-    if !nests(left, round, x) {
-        return Err(at.refusal(Reason::TooDeep));
-    }
+    at.require(nests(left, round, x), Reason::TooDeep)?;
     let after = expressions(table, next, expressions_in(x), 16, env)?;
     let count = statements_in(x);
     if count == 0 {

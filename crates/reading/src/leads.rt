@@ -36,7 +36,8 @@ fn fields(at: Reader, blank: bool, range: bool) -> Result<(), Refusal>
     at.require(range, Reason::TableRange)
 }
 
-// One function for each class: it has one caller, which knows the class, and only expressions and statements are tested against an Env.
+// One function for each class: it has one caller, which knows the class, and only expressions and statements are tested against an Env. Record and
+// reader go by value: a refusal is made here.
 pub fn program_leads(x: Record, at: Reader) -> Result<(), Refusal>
     ensures { (e : Env) → result ≡ leads (lead_by program e x at.at) }
 {

@@ -1,4 +1,5 @@
-// The library that others link: the compiler, the check and the machine as C functions. A refusal's number is 0 where there is none.
+// The library that others link: the compiler, the check and the machine as C functions. A refusal's number is 0 where there is none. C has no Result, so an
+// answer is a struct of numbers, as host/ribbandage.h has it.
 #![tactic(auto, unfolding(crate::specs::Answers::compiled, crate::specs::Answers::checked, crate::specs::Answers::ran))]
 
 ghost use Rattle.std.specs.Prelude.{◌≡◌};

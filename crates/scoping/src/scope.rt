@@ -102,7 +102,7 @@ impl Slots {
     }
 }
 
-// From the cursor on, the first record that is no expression's.
+// From the cursor on, the first record that is no expression's. No iterator: the cursor hands itself back, and where it stands is the answer.
 #[tactic(auto, using(crate::proofs::ScopeSteps::seek_over))]
 fn expressions(table: &[u32], start: Reader, slots: Slots) -> Result<Reader, Refusal>
     ensures { result ≡ past (seek slots start.at (drop start.at (records_of table.now))) }
@@ -177,6 +177,7 @@ fn functions(table: &[u32], start: Reader, count: u32) -> Result<(), Refusal>
     Ok(())
 }
 
+// The heading is read for itself, as each stage does: no stage hands anything to the next.
 #[tactic(auto, unfolding(crate::specs::Scoped::scoped, crate::specs::Passes::staged))]
 pub fn scope(table: &[u32]) -> Result<(), Refusal>
     ensures { result ≡ scoped table.now }

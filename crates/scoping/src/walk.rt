@@ -19,7 +19,7 @@ pub trait Stage {
 
     ghost closes: { ℕ → Self.State → Self.State → Self.State };
 
-    // A statement's record, which the cursor stands at, and its expressions, which begin at the next one: the cursor past them.
+    // A statement's record, which the cursor stands at, and its expressions, which begin at the next one, as it was read: the cursor past them.
     fn enter(
         &self,
         table: &[u32],

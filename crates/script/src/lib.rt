@@ -5,7 +5,7 @@
 pub mod shape;
 
 // What a record's fields are tested against: how many slots and arrays there are, which function this is, and how many parameters each
-// lower one has (0 for the others).
+// lower one has (0 for the others). There is no heap, so the 16 are an array.
 #[derive(Clone, Copy, Debug, PartialEq, Eq)]
 pub struct Env {
     pub slots: u32,

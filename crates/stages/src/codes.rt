@@ -1,4 +1,4 @@
-// Operators by their codes: what types they have and require.
+// Operators by their codes: what types they have and require. A type is said as whether it is a boolean (types, `Typed`).
 #![tactic(auto, using(std::proofs::lemmas::Bool::Decides::nat_tests), unfolding(crate::specs::Typed::code_type, crate::specs::Typed::code_fits))]
 
 ghost use Rattle.std.specs.Prelude.{◌≡◌};

@@ -12,7 +12,7 @@ use word::reason::Reason;
 // As many functions are left at the exposed one, the last: itself.
 const EXPOSED: u32 = 1;
 
-// From the cursor on, with so many functions left, the exposed one counted.
+// From the cursor on, with so many functions left, the exposed one counted. No iterator: the cursor hands itself back, and its place is the refusal's.
 fn first_store(table: &[u32], start: Reader, functions: u32) -> Result<(), Refusal>
     ensures { result ≡ storing functions start.at (drop start.at (records_of table.now)) }
 {
@@ -37,6 +37,7 @@ fn first_store(table: &[u32], start: Reader, functions: u32) -> Result<(), Refus
     Ok(())
 }
 
+// The heading is read for itself, as each stage does: no stage hands anything to the next.
 #[tactic(auto, unfolding(crate::specs::Stored::stored))]
 pub fn stores(table: &[u32]) -> Result<(), Refusal>
     ensures { result ≡ stored table.now }

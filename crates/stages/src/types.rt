@@ -223,6 +223,7 @@ fn functions(table: &[u32], start: Reader, count: u32) -> Result<(), Refusal>
     Ok(())
 }
 
+// The heading is read for itself, as each stage does: no stage hands anything to the next.
 #[tactic(auto, unfolding(crate::specs::Typed::typed, scoping::specs::Passes::staged))]
 pub fn types(table: &[u32]) -> Result<(), Refusal>
     ensures { result ≡ typed table.now }

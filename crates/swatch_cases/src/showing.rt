@@ -42,6 +42,7 @@ impl<'a> Case<'a> {
         let memory = self.memory;
         let mut out = [0u32; 4096];
         print!(rt; "{name}")?;
+        // A refusal is handed on by name, since a `?` here is printing's. Only this program prints a run, as the end of its line: there is no Display for it.
         let answer = match compiler::compile(self.table, &mut out) {
             Ok(tape) => {
                 let tape = &out[..4 * tape.records.min(out.len() / 4)];

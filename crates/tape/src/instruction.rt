@@ -32,6 +32,7 @@ fn words(kind: u32, p: u32, q: u32, r: u32) -> Record
     Record { kind, p, q, r }
 }
 
+// The one place where a record's words are written.
 impl From<Instruction> for Record {
     ghost from_gives = { λ i x. x ≡ write (named i) };
 

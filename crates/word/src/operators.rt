@@ -21,7 +21,7 @@ pub fn minus(a: u32, b: u32) -> u32
     a.wrapping_sub(b)
 }
 
-// The product is worked out in 64 bits, where it fits, and its low half kept.
+// The product is worked out in 64 bits, where it fits, and its low half kept: 01 asks for a helper that is proved modulo 2^32.
 pub fn times(a: u32, b: u32) -> u32
     ensures { result ≡ op mul a b }
 {

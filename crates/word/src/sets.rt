@@ -1,5 +1,5 @@
 // Sets of slots, one u32 for each: slot p is a member if bit p is set. A slot is below 32; no other number is ever a member. A set is the bare word that the
-// definitions speak of: a type round it would be opened again in each of their laws.
+// definitions speak of: a type round it would be opened again in each of their laws. A tape's sets are of 64 slots (checker/src/slots).
 ghost use Rattle.std.specs.Prelude.{◌≡◌, ◌<◌};
 ghost use Rattle.word.specs.Sets.{has, toggle, put, below};
 

@@ -151,13 +151,13 @@ def p1(fns, tys, texts):
 
 def p1_second(fns):
     rows, by = [], {(f.crate, f.name): f for f in fns}
-    todo = [(f.crate, g) for f in fns for v, g in re.findall(r'(\w+) = (\w+)\(', f.body) if re.search(r'\b' + v + r' != 0\b', f.body)]
+    waiting = [(f.crate, g) for f in fns for v, g in re.findall(r'(\w+) = (\w+)\(', f.body) if re.search(r'\b' + v + r' != 0\b', f.body)]
     seen = set()
-    while todo:
-        k = todo.pop(); f = by.get(k)
+    while waiting:
+        k = waiting.pop(); f = by.get(k)
         if k in seen or not f or not re.fullmatch(INT, f.ret): continue
         seen.add(k); rows.append(name(f))
-        todo += [(f.crate, m.group(1)) for h, a in arms(f.body) for p, v in a for m in [re.match(r'(\w+)\(', v)] if m] + [(f.crate, m) for h, a in arms(f.body) for p, v in a for h2, a2 in arms(v) for q, w in a2 for m in re.findall(r'^(\w+)\(', w)]
+        waiting += [(f.crate, m.group(1)) for h, a in arms(f.body) for p, v in a for m in [re.match(r'(\w+)\(', v)] if m] + [(f.crate, m) for h, a in arms(f.body) for p, v in a for h2, a2 in arms(v) for q, w in a2 for m in re.findall(r'^(\w+)\(', w)]
     show('1c second: functions whose number a caller tests against 0, and those that it comes from', sorted(rows))
 
 KW = set('let mut while if else match return for in loop break continue as true false self Self'.split())

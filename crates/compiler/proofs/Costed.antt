@@ -30,7 +30,7 @@ use Rattle.tape.proofs.Sizes.{tape_fs_records}
 use Rattle.translation.specs.Translate.{FDEFT, translate}
 use Rattle.translation.specs.Compile.{costs, stages, first_of, written, unless_fault, compile_by, compile}
 use Rattle.emitting.specs.Emitting.{Sheet, place, puts}
-use Rattle.emitting.specs.Walking.{Desk, desk, times}
+use Rattle.emitting.specs.Walking.{Desk, desk}
 use Rattle.costing.specs.Totals.{cost_of}
 use Rattle.costing.proofs.Totalled.{tape_records, counted_is, twelve, deeps_are}
 use Rattle.compiler.specs.Writing.{rolls, copy, walk_fs, blank, walk_p, answered, known, write_out}
@@ -42,6 +42,7 @@ use Rattle.translation.proofs.Sizes.{tape_most}
 use Rattle.std.specs.Prelude.{Ok, Err}
 use Rattle.word.specs.Refusals.{refuse}
 use Rattle.stages.proofs.TypeExprs.{or_clean}
+use Rattle.script.specs.Shape.{times}
 
 -- ---- PROGRAM and the arrays
 lay_a : List ℕ → Sheet → Sheet

@@ -10,7 +10,7 @@ use Rattle.word.specs.declared.Record.{Record}
 use Rattle.word.specs.declared.reader.Reader.{Reader}
 use Rattle.std.specs.Prelude.{Some, None}
 use Rattle.emitting.specs.Emitting.{sheet, place}
-use Rattle.emitting.specs.Walking.{Desk, desk, times}
+use Rattle.emitting.specs.Walking.{Desk, desk}
 use Rattle.compiler.specs.Writing.{Rolls, rolls, copy_by, copy, body_of, enter_f, walk_f, walk_fs, blank, enter_p, walk_p, answered, fitting, unless_cost, known, write_out}
 use Rattle.emitting.specs.declared.emitter.Emitter.{Emitter}
 use Rattle.std.specs.Prelude.{Ok, Err}
@@ -18,6 +18,7 @@ use Rattle.word.specs.Refusals.{refuse}
 use Rattle.word.specs.declared.Refusal.{Refusal}
 use Rattle.translation.specs.Compile.{Compiled}
 use Rattle.translation.specs.declared.Tape.{Tape}
+use Rattle.script.specs.Shape.{times}
 
 -- ---- a whole table
 module _ (t : List ℕ) where

@@ -15,8 +15,8 @@ use Rattle.scoping.proofs.Found.{finds}
 use Rattle.tape.specs.Instruction.{def as core_def, end as core_end}
 use Rattle.translation.specs.Translate.{lowered, EXT, EXTs, layout, merge, STT, STTs}
 use Rattle.emitting.specs.Emitting.{Sheet, puts, lay_e, lay_es, lay_s, masks, merges, assigns, stores, gives, flips}
-use Rattle.script.specs.Shape.{parts_in}
-use Rattle.emitting.specs.Walking.{Desk, desk, on, times, looping, lowered_code, own, walk_e, putting, branching, head_s, walk_s}
+use Rattle.script.specs.Shape.{parts_in, times}
+use Rattle.emitting.specs.Walking.{Desk, desk, on, looping, lowered_code, own, walk_e, putting, branching, head_s, walk_s}
 use Rattle.emitting.proofs.Stepping.{walk_e_found, walk_s_found}
 
 -- && and ||, by their codes

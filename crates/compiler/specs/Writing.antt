@@ -13,11 +13,12 @@ use Rattle.tape.specs.Held.{hold}
 use Rattle.translation.specs.Translate.{layout}
 use Rattle.translation.specs.Compile.{Result}
 use Rattle.emitting.specs.Emitting.{Sheet, place, puts}
-use Rattle.emitting.specs.Walking.{Desk, desk, on, times, walk_s}
+use Rattle.emitting.specs.Walking.{Desk, desk, on, walk_s}
 use Rattle.translation.specs.Compile.{Compiled}
 use Rattle.std.specs.Prelude.{Ok, Err}
 use Rattle.word.specs.Refusals.{refuse}
 use Rattle.translation.specs.declared.Tape.{Tape}
+use Rattle.script.specs.Shape.{times}
 
 abbrev pub blank : List ℕ → Sheet
 blank out = record { words = out; at = 0 }

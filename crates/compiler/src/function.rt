@@ -1,7 +1,8 @@
 // Functions, and a whole table: what is kept of each function for those after it.
 ghost use Rattle.std.specs.Prelude.{◌≡◌, ◌≤◌};
 ghost use Rattle.emitting.specs.Emitting.{sheet};
-ghost use Rattle.emitting.specs.Walking.{desk_of, times};
+ghost use Rattle.script.specs.Shape.{times};
+ghost use Rattle.emitting.specs.Walking.{desk_of};
 ghost use Rattle.compiler.specs.Writing.{rolls, heads, copy, walk_f, walk_fs, walk_p};
 
 use crate::masks::Place;
@@ -32,7 +33,7 @@ fn head(out: &mut [u32], to: Emitter, params: u32, slots: u32, depth: u32) -> Em
 }
 
 // Records as they stand: PROGRAM, and the arrays.
-#[tactic(auto, using(emitting::proofs::Stepping::times_more, emitting::proofs::Stepping::times_over))]
+#[tactic(auto, using(script::proofs::Times::times_more, script::proofs::Times::times_over))]
 fn copied(table: &[u32], out: &mut [u32], from: Walk, n: u32) -> Walk
     ensures { desk_of out.new result ≡ times n (copy table.now) (desk_of out.old from) }
 {
@@ -96,7 +97,7 @@ fn functions(table: &[u32], depths: &[u32], params: &mut [u32], out: &mut [u32],
 }
 
 // A whole table: its translation goes to `out` as far as there is room, with `depths` the deepest IF nestings of the functions.
-#[tactic(auto, using(crate::proofs::Tables::walk_p_end, crate::proofs::Tables::walk_p_found), unfolding(emitting::specs::Walking::times))]
+#[tactic(auto, using(crate::proofs::Tables::walk_p_end, crate::proofs::Tables::walk_p_found), unfolding(script::specs::Shape::times))]
 pub fn translate(table: &[u32], depths: &[u32], out: &mut [u32])
     ensures { out.new ≡ walk_p table.now depths.now out.old }
 {

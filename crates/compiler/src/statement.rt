@@ -74,7 +74,7 @@ fn single(source: Source, out: &mut [u32], here: Walk, place: Place, x: Record) 
 }
 
 // The statement where the walk stands, which may hold others to the depth `left`, itself counted.
-#[tactic(auto, using(emitting::proofs::Stepping::times_more, emitting::proofs::Stepping::times_over, emitting::proofs::Stepping::walk_s_none, emitting::proofs::Stepping::walk_s_end, emitting::proofs::Stepping::walk_s_found), unfolding(tape::specs::Named::named, emitting::specs::Walking::head_s, emitting::specs::Walking::looping, emitting::specs::Walking::branching))]
+#[tactic(auto, using(script::proofs::Times::times_more, script::proofs::Times::times_over, emitting::proofs::Stepping::walk_s_none, emitting::proofs::Stepping::walk_s_end, emitting::proofs::Stepping::walk_s_found), unfolding(tape::specs::Named::named, emitting::specs::Walking::head_s, emitting::specs::Walking::looping, emitting::specs::Walking::branching))]
 pub(crate) fn statement(
     source: Source,
     out: &mut [u32],

@@ -19,10 +19,11 @@ use Rattle.tape.proofs.Sizes.{records_s}
 use Rattle.translation.specs.Translate.{EXT, layout, STT, STTs, depth, depths}
 use Rattle.translation.proofs.Figures.{set_steps, put_steps, return_steps, if_steps, for_steps}
 use Rattle.translation.proofs.Sizes.{set_records, put_records, return_records, def_records, if_records, for_records}
-use Rattle.costing.specs.Counting.{count, moved, plus, deeper, times, past, expression, masked, opened, closed, putting, branching, head, statement}
+use Rattle.costing.specs.Counting.{count, moved, plus, deeper, past, expression, masked, opened, closed, putting, branching, head, statement}
 use Rattle.costing.specs.declared.count.Count.{Count}
 use Rattle.costing.proofs.Turns.{statement_found}
 use Rattle.costing.proofs.Tallying.{alike, add_held, add_all, Held, nothing_more, expr_counted}
+use Rattle.script.specs.Shape.{times}
 
 module _ (v : Env) (κ t : List ℕ) (few : v.func ≤ 16) (n : ℕ) where
   abbrev takes : ℕ → ℕ

@@ -18,7 +18,7 @@ use Rattle.scoping.proofs.Found.{found_on, found_none}
 use Rattle.scoping.specs.Passes.{heading, noted, arity_of}
 use Rattle.tape.specs.Steps.{most}
 use Rattle.tape.specs.Held.{hold}
-use Rattle.costing.specs.Counting.{moved, plus, times, weight, past, tally_one, tally, head, enter, statement}
+use Rattle.costing.specs.Counting.{moved, plus, weight, past, tally_one, tally, head, enter, statement}
 use Rattle.costing.specs.Totals.{Totals, body_at, keeping, function_by, function_at, Outcome, outcome, or_over, functions_from, counted}
 use Rattle.costing.specs.declared.count.Count.{Count}
 use Rattle.translation.specs.Compile.{announced}
@@ -52,20 +52,6 @@ module _ (params κ : List ℕ) where
 
   pub tally_end : (t : List ℕ) (here : Count) (p : ℕ) → read_at t here.at.at ≡ None → tally params κ (from t here.at.at) p here ≡ here
   tally_end t here p found = tally_none p here (found_none t here.at.at found)
-
--- ---- some parts of n
-module _ (f : Count → Count) (n i : ℕ) (c : Count) where
-  pub times_more : i < n → times (n - i) f c ≡ times (n - (i + 1)) f (f c)
-  unfolding times
-  times_more h =
-      let e : n - i ≡ suc (n - (i + 1)) = omega arith in
-      ap (λ (k : ℕ). times k f c) e
-
-  pub times_over : n ≤ i → times (n - i) f c ≡ c
-  unfolding times
-  times_over h =
-      let e : n - i ≡ 0 = omega arith in
-      ap (λ (k : ℕ). times k f c) e
 
 -- ---- a statement's record
 module _ (params κ t : List ℕ) where

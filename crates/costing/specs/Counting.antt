@@ -10,6 +10,7 @@ use Rattle.script.specs.Table.{HeadS, SKIP, SEQ, DEF, SET, PUT, FOR, IF, RETURN,
 use Rattle.scoping.specs.Passes.{params_of, arity_of}
 use Rattle.tape.specs.Held.{hold}
 use Rattle.costing.specs.declared.count.Count.{Count}
+use Rattle.script.specs.Shape.{times}
 
 abbrev pub count : ℕ → ℕ → ℕ → ℕ → Count
 count at records steps deepest = record { at = record { at = at }; records = records; steps = steps; deepest = deepest }
@@ -25,10 +26,6 @@ plus r n c = count c.at.at (hold (c.records + r)) (hold (c.steps + n)) c.deepest
 -- at least d IFs deep
 unfoldable pub deeper : ℕ → Count → Count
 deeper d c = count c.at.at c.records c.steps (max c.deepest d)
-
-unfoldable pub times : ℕ → (Count → Count) → Count → Count
-times zero f c = c
-times (suc n) f c = times n f (f c)
 
 -- ---- expressions
 -- the steps of a record by itself, where function f takes params_of κ f

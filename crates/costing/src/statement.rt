@@ -83,7 +83,7 @@ impl Known {
     }
 
     // The statement where the count stands, with `ifs` IFs round it, which may hold others to the depth `left`, itself counted.
-    #[tactic(auto, using(crate::proofs::Turns::times_more, crate::proofs::Turns::times_over, crate::proofs::Turns::statement_none, crate::proofs::Turns::statement_end, crate::proofs::Turns::statement_found), unfolding(script::specs::Table::read_s, crate::specs::Counting::head, crate::specs::Counting::branching))]
+    #[tactic(auto, using(script::proofs::Times::times_more, script::proofs::Times::times_over, crate::proofs::Turns::statement_none, crate::proofs::Turns::statement_end, crate::proofs::Turns::statement_found), unfolding(script::specs::Table::read_s, crate::specs::Counting::head, crate::specs::Counting::branching))]
     pub(crate) fn statement(&self, table: &[u32], from: Count, ifs: u32, left: u32) -> Count
         requires { ifs + left ≤ 16 }
         ensures { result ≡ statement self.now.params self.now.steps table.now left ifs from }

@@ -1,30 +1,16 @@
 -- A walk by one record, and one of several parts: how what the code does at a record and in a loop is what the walk does. Assumes nothing.
 use mathlib.Core.Path.{◌≡◌, ap, ◌∙◌}
 use mathlib.Core.List.{List}
-use Prim.Native.Nat.{ℕ, suc, ◌+◌, ◌-◌, ◌≤◌, ◌<◌}
+use Prim.Native.Nat.{ℕ, suc, ◌-◌, ◌<◌}
 use native.Mathlib.Omega.{arith}
 use Rattle.word.specs.Reader.{read_at}
 use Rattle.word.specs.declared.Record.{Record}
 use Rattle.word.specs.declared.reader.Reader.{Reader}
 use Rattle.std.specs.Prelude.{Some, None}
 use Rattle.script.specs.Table.{read_e, read_s}
-use Rattle.script.specs.Shape.{parts_in}
+use Rattle.script.specs.Shape.{parts_in, times}
 use Rattle.translation.specs.Translate.{Layout}
-use Rattle.emitting.specs.Walking.{Desk, desk, on, times, own, enter_e, walk_e, head_s, enter_s, walk_s}
-
--- ---- some parts of n
-module _ (f : Desk → Desk) (n i : ℕ) (z : Desk) where
-  pub times_more : i < n → times (n - i) f z ≡ times (n - (i + 1)) f (f z)
-  unfolding times
-  times_more h =
-      let e : n - i ≡ suc (n - (i + 1)) = omega arith in
-      ap (λ (k : ℕ). times k f z) e
-
-  pub times_over : n ≤ i → times (n - i) f z ≡ z
-  unfolding times
-  times_over h =
-      let e : n - i ≡ 0 = omega arith in
-      ap (λ (k : ℕ). times k f z) e
+use Rattle.emitting.specs.Walking.{Desk, desk, on, own, enter_e, walk_e, head_s, enter_s, walk_s}
 
 -- ---- one record
 module _ (params t : List ℕ) where

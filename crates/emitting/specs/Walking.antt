@@ -6,7 +6,7 @@ use Rattle.word.specs.Reader.{read_at}
 use Rattle.word.specs.Reader.{Read}
 use Rattle.std.specs.Prelude.{Some, None}
 use Rattle.script.specs.Table.{HeadE, NUM, TRUE as YES, FALSE as NO, VAR, GET, LNOT, BNOT, BIN, CALL, HeadS, SKIP, SEQ, DEF, SET, PUT, FOR, IF, RETURN, read_e, read_s}
-use Rattle.script.specs.Shape.{parts_in}
+use Rattle.script.specs.Shape.{parts_in, times}
 use Rattle.tape.specs.Instruction.{lit, var, get, not, bin, call, def, for, end}
 use Rattle.translation.specs.Translate.{Layout}
 use Rattle.emitting.specs.Emitting.{Sheet, sheet, puts, masks, assigns, stores, gives, flips}
@@ -25,10 +25,6 @@ desk_of out w = desk (sheet out w.emitter) w.reader.at
 
 abbrev pub on : (Sheet → Sheet) → Desk → Desk
 on f z = desk (f z.sheet) z.read
-
-unfoldable pub times : ℕ → (Desk → Desk) → Desk → Desk
-times zero f z = z
-times (suc n) f z = times n f (f z)
 
 -- a FOR round what f does
 unfoldable pub looping : (Desk → Desk) → ℕ → ℕ → ℕ → Desk → Desk

@@ -48,7 +48,7 @@ fn own(x: Record) -> Instruction
 }
 
 // The expression where the walk stands, which may hold others to the depth `left`, itself counted.
-#[tactic(auto, using(crate::proofs::Stepping::times_more, crate::proofs::Stepping::times_over, crate::proofs::Stepping::walk_e_none, crate::proofs::Stepping::walk_e_end, crate::proofs::Stepping::walk_e_found))]
+#[tactic(auto, using(script::proofs::Times::times_more, script::proofs::Times::times_over, crate::proofs::Stepping::walk_e_none, crate::proofs::Stepping::walk_e_end, crate::proofs::Stepping::walk_e_found))]
 pub fn expression(source: Source, out: &mut [u32], from: Walk, left: u32) -> Walk
     ensures { desk_of out.new result ≡ walk_e source.entry.params.now source.entry.table.now left (desk_of out.old from) }
 {

@@ -5,8 +5,9 @@ use Rattle.std.specs.Prelude.{ℕ, ◌+◌, Bool, true, false, cond, not, ◌&&�
 use Rattle.word.specs.Records.{records_of}
 use Rattle.word.specs.Slots.{here, Seen, hidden, fixed, defined}
 use Rattle.word.specs.Sets.{has, put, below}
+use Rattle.word.specs.Refusals.{required}
 use Rattle.word.specs.declared.Record.{Record}
-use Rattle.script.specs.Stage.{clean, fault, Walked, goes, stops, after, onward}
+use Rattle.script.specs.Stage.{clean, Walked, goes, stops, after, onward}
 use Rattle.script.specs.Scope.{Names, settable}
 use Rattle.scoping.specs.Passes.{At, come, Turn, turn, walk, Over, staged}
 use Rattle.script.specs.Stage.{First}
@@ -36,8 +37,7 @@ seek a at (x ∷ xs) = seek_at (leb 20 x.kind && leb x.kind 28) (hides a x) at (
 -- ---- statements
 -- a record's own fault: a slot that is declared again, or one that may not be set
 unfoldable pub declarable : Bool → ℕ → First
-declarable true at = fault 8 at
-declarable false at = clean
+declarable again at = required (not again) 8 at
 
 unfoldable pub own : Slots → Record → ℕ → First
 own a x at =

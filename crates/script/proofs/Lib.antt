@@ -3,7 +3,7 @@
 -- The first record at fault: Stopping (2 to 7); Beginning, Agreeing (trees whose tables begin alike), Firsts, FirstScope (8, 9), FirstStore (11); ScopeSamples (8 and 9 worked out).
 -- The judgement that the compiler's theorem asks for: Judged, its contexts' laws (Contexts), and what stores nothing (Pure). That accepted scripts meet
 -- it: Walks (a clean stage's parts), Scoping, Placing (the functions in order), Viewing (expressions), Declaring (what the stages carry), Judging
--- (statements, the program).
+-- (statements, the program). Times (so many parts, turn by turn).
 pub mod Computes
 pub mod Sizes
 pub mod Leading
@@ -28,3 +28,4 @@ pub mod Placing
 pub mod Viewing
 pub mod Declaring
 pub mod Judging
+pub mod Times

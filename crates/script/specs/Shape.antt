@@ -1,5 +1,5 @@
 -- How many parts follow a record of a script table (01, "The script table"), as the code counts them. Assumes nothing: these are definitions.
-use Rattle.std.specs.Prelude.{ℕ, List, get_or}
+use Rattle.std.specs.Prelude.{ℕ, zero, suc, List, get_or}
 use Rattle.script.specs.Table.{HeadE, NUM, TRUE, FALSE, VAR, GET, LNOT, BNOT, BIN, CALL, HeadS, SKIP, SEQ, DEF, SET, PUT, FOR, IF, RETURN}
 
 -- how many expressions follow an expression's record, where function f has get_or params f 0 parameters; how many a statement's, and how many statements after them
@@ -33,3 +33,8 @@ statements_in (PUT a) = 0
 statements_in (FOR x q r) = 1
 statements_in IF = 2
 statements_in RETURN = 0
+
+-- so many, one after another
+unfoldable pub times : {A : Type 0} → ℕ → (A → A) → A → A
+times zero f a = a
+times (suc n) f a = times n f (f a)

@@ -1,9 +1,10 @@
 -- Types: refusal 10, at the record that requires (01, "Types"). Assumes nothing: these are definitions.
-use Rattle.std.specs.Prelude.{ℕ, ◌+◌, Bool, true, false, not, ◌&&◌}
+use Rattle.std.specs.Prelude.{ℕ, ◌+◌, Bool, true, not, ◌&&◌}
 use Rattle.word.specs.Types.{Ty, number, boolean, is_numeric, alike, op_ty, op_fine}
 use Rattle.word.specs.Slots.{upd}
+use Rattle.word.specs.Refusals.{required}
 use Rattle.script.specs.Tree.{Expr, num, tru, fls, var, get, lnot, bnot, bin, call, Exprs, none, more, Stmt, skip, seq, def, set, put, for, if, return, Stmts, done, next, Func, size_e, size_s}
-use Rattle.script.specs.Stage.{clean, fault, or_else, Walked, goes, after, onward, ended}
+use Rattle.script.specs.Stage.{clean, or_else, Walked, goes, after, onward, ended}
 use Rattle.script.specs.Stage.{First}
 
 -- the slots' types: "Parameters, loop slots are numbers; a DEF'd slot has its expression's". A slot is declared once, so nothing is taken back
@@ -43,8 +44,7 @@ fits Γ (bin o l r) = op_fine o (ty Γ l) (ty Γ r)
 fits Γ (call f es) = numerics Γ es
 
 unfoldable pub require : Bool → ℕ → First
-require true at = clean
-require false at = fault 10 at
+require met at = required met 10 at
 
 -- the first record at fault of the expression at record `at`: its own requirement, then its parts'
 unfoldable mutual

@@ -1,6 +1,7 @@
 -- `compiler::function::copied`: what is left to copy, from where it stands, is the whole. Assumes nothing.
 use Rattle.std.proofs.Common.{◌≡◌, ◌-◌}
-use Rattle.emitting.specs.Walking.{desk_of, times}
+use Rattle.script.specs.Shape.{times}
+use Rattle.emitting.specs.Walking.{desk_of}
 use Rattle.compiler.specs.Writing.{copy}
 use Rattle.compiler.proofs.function.copied.Given as goal
 

@@ -7,9 +7,10 @@ use Rattle.tape.specs.Named.{named}
 use Rattle.translation.specs.Translate.{layout}
 use Rattle.emitting.specs.Emitting.{sheet}
 use Rattle.emitting.specs.Walking.{desk, desk_of, looping, branching, head_s, walk_s}
-use Rattle.emitting.proofs.Stepping.{times_over, walk_s_found}
+use Rattle.emitting.proofs.Stepping.{walk_s_found}
 use Rattle.compiler.proofs.statement.+statement.Goals as goal
 use Rattle.compiler.proofs.statement.+statement.Goals.{In-Some}
+use Rattle.script.proofs.Times.{times_over}
 
 -- where a record was found: the walk enters the statement that it begins
 enters : (t : ℕ) (c : In-Some t) → let a = c.args in

@@ -1,8 +1,9 @@
 -- `compiler::statement::statement`: the depth that is left falls. At the loop's head what is left of the walk over a sequence, from where it stands, is the walk over all
 -- of it. Assumes nothing.
 use Rattle.std.proofs.Common.{◌≡◌, ◌-◌}
+use Rattle.script.specs.Shape.{times}
 use Rattle.translation.specs.Translate.{layout}
-use Rattle.emitting.specs.Walking.{desk_of, times, walk_s}
+use Rattle.emitting.specs.Walking.{desk_of, walk_s}
 use Rattle.compiler.proofs.statement.+statement.Given as goal
 
 abbrev pub decreases-statement : goal.decreases-statement

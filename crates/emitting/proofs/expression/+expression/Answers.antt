@@ -1,7 +1,8 @@
 -- `emitting::expression::expression` meets its contract: behind the last part comes the record's own. Assumes nothing.
 use Rattle.std.proofs.Common.{sym, ◌-◌, arith}
+use Rattle.script.proofs.Times.{times_over}
 use Rattle.emitting.specs.Walking.{desk_of, walk_e}
-use Rattle.emitting.proofs.Stepping.{times_over, walk_e_found}
+use Rattle.emitting.proofs.Stepping.{walk_e_found}
 use Rattle.emitting.proofs.expression.+expression.Goals as goal
 
 pub returns : goal.returns

@@ -1,7 +1,8 @@
 -- `emitting::expression::expression`: the depth that is left falls. At the loop's head what is left of the walk over the parts, from where it stands, is the walk over
 -- all of them. Assumes nothing.
 use Rattle.std.proofs.Common.{◌≡◌, ◌-◌}
-use Rattle.emitting.specs.Walking.{desk_of, times, walk_e}
+use Rattle.script.specs.Shape.{times}
+use Rattle.emitting.specs.Walking.{desk_of, walk_e}
 use Rattle.emitting.proofs.expression.+expression.Given as goal
 
 abbrev pub decreases-expression : goal.decreases-expression

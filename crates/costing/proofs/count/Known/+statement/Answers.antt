@@ -5,9 +5,10 @@ use Rattle.script.specs.Table.{read_s}
 use Rattle.script.proofs.Heads.{head_seq, head_for, head_if}
 use Rattle.costing.specs.Counting.{moved, branching, head, statement}
 use Rattle.costing.specs.declared.count.Count.{Count}
-use Rattle.costing.proofs.Turns.{times_over, statement_found}
+use Rattle.costing.proofs.Turns.{statement_found}
 use Rattle.costing.proofs.count.Known.+statement.Goals as goal
 use Rattle.costing.proofs.count.Known.+statement.Goals.{In-Some}
+use Rattle.script.proofs.Times.{times_over}
 
 -- where a record was found: the count enters the statement that it begins
 enters : (t : ℕ) (c : In-Some t) → let a = c.args in

@@ -1,7 +1,8 @@
 -- `costing::count::Known::statement`: the depth that is left falls. At the loop's head what is left of the count of a sequence, from where it stands, is the count of
 -- all of it. Assumes nothing.
 use Rattle.std.proofs.Common.{◌≡◌, ◌-◌}
-use Rattle.costing.specs.Counting.{times, statement}
+use Rattle.script.specs.Shape.{times}
+use Rattle.costing.specs.Counting.{statement}
 use Rattle.costing.proofs.count.Known.+statement.Given as goal
 
 abbrev pub decreases-statement : goal.decreases-statement

@@ -1,3 +1,2 @@
--- What the functions' proofs share: Storing (four words at once), Stepping (a walk by one record).
-pub mod Storing
+-- What the functions' proofs share: Stepping (a walk by one record).
 pub mod Stepping

@@ -2,7 +2,7 @@
 ghost use Rattle.std.specs.Prelude.{◌≡◌, ltb};
 ghost use Rattle.word.specs.Records.{records};
 ghost use Rattle.tape.specs.Named.{named};
-ghost use Rattle.emitting.specs.Emitting.{words_if, sheet, place, puts};
+ghost use Rattle.emitting.specs.Emitting.{Sheet, words_if, sheet, place, puts};
 
 use tape::held::more;
 use tape::instruction::Instruction;
@@ -15,14 +15,43 @@ pub struct Emitter {
     pub at: usize,
 }
 
-// The four words of record `at`, where there is room for them.
-#[tactic(auto, using(std::proofs::lemmas::Bool::Decides::nat_tests, crate::proofs::Storing::four_at_once), unfolding(crate::specs::Emitting::words_if))]
+// What can be put on a tape: an instruction by its words, and any record as it stands.
+pub trait Item: Copy {
+    ghost puts: { Self → Sheet → Sheet };
+
+    fn record(self) -> Record
+        ensures { (s : Sheet) → place result s ≡ puts self s };
+}
+
+impl Item for Record {
+    ghost puts = { λ x s. place x s };
+
+    fn record(self) -> Record {
+        self
+    }
+}
+
+impl Item for Instruction {
+    ghost puts = { λ i s. puts (named i) s };
+
+    #[tactic(auto, unfolding(crate::specs::Emitting::puts))]
+    fn record(self) -> Record {
+        self.into()
+    }
+}
+
+// The four words of record `at`, where there is room for them. One by one: the library's copy of a slice is a loop, which may be compiled with a test at
+// each record whether the two overlap.
+#[tactic(auto, using(std::proofs::lemmas::Bool::Decides::nat_tests), unfolding(crate::specs::Emitting::words_if))]
 fn store(out: &mut [u32], at: usize, x: Record)
     ensures { out.new ≡ words_if (ltb at (records out.old)) out.old at x }
 {
     if at < out.len() / 4 {
         let b = at * 4;
-        out[b..b + 4].copy_from_slice(&[x.kind, x.p, x.q, x.r]);
+        out[b] = x.kind;
+        out[b + 1] = x.p;
+        out[b + 2] = x.q;
+        out[b + 3] = x.r;
     }
 }
 
@@ -45,10 +74,9 @@ impl Emitter {
     }
 
     // One record.
-    #[tactic(auto, unfolding(crate::specs::Emitting::puts))]
-    pub fn put(self, out: &mut [u32], i: Instruction) -> Self
-        ensures { sheet out.new result ≡ puts (named i) (sheet out.old self) }
+    pub fn put<I: Item>(self, out: &mut [u32], i: I) -> Self
+        ensures { sheet out.new result ≡ I.puts i (sheet out.old self) }
     {
-        self.copy(out, i.into())
+        self.copy(out, i.record())
     }
 }

@@ -1,32 +1,28 @@
--- Operands copied to slots all at once are those copied one at a time. Assumes nothing.
-use mathlib.Core.Path.{◌≡◌, refl, sym, ◌∙◌}
-use mathlib.Core.List.{List, ◌++◌, append_assoc}
-use Prim.Native.Nat.{ℕ, zero, suc, ◌+◌, ◌-◌, ◌≤◌, ◌<◌}
-use native.Mathlib.Numerals.{add-one}
+-- Operands copied to slots, one at a time. Assumes nothing.
+use mathlib.Core.Path.{◌≡◌, ap, ◌∙◌}
+use mathlib.Core.List.{List}
+use Prim.Native.Nat.{ℕ, suc, ◌+◌, ◌-◌, ◌<◌, ◌≤◌}
 use native.Mathlib.Omega.{arith}
-use lib.ListN.{length, get_or, set as put_at, take, drop, length-set}
-use lib.Seq.{take-suc-set, drop-cons, drop-set-lt, drop-drop}
-use Rattle.std.proofs.Common.{take-append-drop}
-use Rattle.std.specs.List.{between}
-use borrow.Rule.Slice.PartMut.{put_mid}
+use lib.ListN.{get_or, set as put_at}
 use Rattle.machine.specs.Flat.{copied}
 
-pasted : (n : ℕ) (from : List ℕ) (i : ℕ) (to : List ℕ) (j : ℕ) → i + n ≤ length from → j + n ≤ length to
-    → copied n from i to j ≡ take j to ++ (take n (drop i from) ++ drop (j + n) to)
-unfolding copied
-pasted zero from i to j h l = let e : j + 0 ≡ j = omega arith in rw e (sym (take-append-drop j to))
-pasted (suc n) from i to j h l =
-    let v = get_or from i 0 in
-    let e : j + 1 + n ≡ j + suc n = omega arith in
-    let k : j < length to = omega arith in
-    let p : i < length from = omega arith in
-    let q : j < j + 1 + n = omega arith in
-    pasted n from (i + 1) (put_at to j v) (j + 1) (omega arith) (omega (arith, length-set to j v))
-    ∙ rw (drop-set-lt (j + 1 + n) to j v q, e, add-one j, add-one i, take-suc-set to j v k, drop-cons from i 0 p, append_assoc) refl
+module _ (n : ℕ) (from : List ℕ) (i : ℕ) (to : List ℕ) (j : ℕ) where
+  pub copy_none : copied (n - 0) from (i + 0) to (j + 0) ≡ copied n from i to j
+  copy_none =
+      let a : n - 0 ≡ n = omega arith in
+      let b : i + 0 ≡ i = omega arith in
+      let d : j + 0 ≡ j = omega arith in
+      λ k. copied (a k) from (b k) to (d k)
 
-pub copied_at_once : (n : ℕ) (from : List ℕ) (i : ℕ) (to : List ℕ) (j : ℕ) (part : List ℕ) → i + n ≤ length from → j + n ≤ length to
-    → part ≡ between i (i + n) from → put_mid j (j + n - j) to part ≡ copied n from i to j
-copied_at_once n from i to j part h l e =
-    let d : i + n - i ≡ n = omega arith in
-    let k : j + n - j ≡ n = omega arith in
-    rw (pasted n from i to j h l, e, d, k, drop-drop n j to) refl
+  pub copy_one : (k : ℕ) → k < n → copied (n - k) from (i + k) to (j + k) ≡ copied (n - (k + 1)) from (i + (k + 1)) (put_at to (j + k) (get_or from (i + k) 0)) (j + (k + 1))
+  unfolding copied
+  copy_one k h =
+      let a : n - k ≡ suc (n - (k + 1)) = omega arith in
+      let b : i + k + 1 ≡ i + (k + 1) = omega arith in
+      let d : j + k + 1 ≡ j + (k + 1) = omega arith in
+      ap (λ (m : ℕ). copied m from (i + k) to (j + k)) a
+      ∙ (λ l. copied (n - (k + 1)) from (b l) (put_at to (j + k) (get_or from (i + k) 0)) (d l))
+
+  pub copy_all : (k a b : ℕ) → n ≤ k → copied (n - k) from a to b ≡ to
+  unfolding copied
+  copy_all k a b h = let e : n - k ≡ 0 = omega arith in ap (λ (m : ℕ). copied m from a to b) e

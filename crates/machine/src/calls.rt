@@ -8,13 +8,17 @@ use crate::reading::record;
 use crate::registers::Registers;
 use crate::stacks::{Frame, Stacks};
 
-// n values from i on become the slots from j on.
-#[tactic(auto, using(crate::proofs::Copying::copied_at_once))]
+// n values from i on become the slots from j on. One by one: for the few that a call has, the library's copy of a slice takes longer. It stays a call, since
+// its loop in the machine's own takes registers from every other step.
+#[inline(never)]
+#[tactic(auto, using(crate::proofs::Copying::copy_none, crate::proofs::Copying::copy_one, crate::proofs::Copying::copy_all))]
 pub(crate) fn copy(values: &[u32], i: usize, slots: &mut [u32; 1024], j: usize, n: usize)
     requires { (i + n ≤ length values.now) × (j + n ≤ 1024) }
     ensures { slots.new ≡ copied n values.now i slots.old j }
 {
-    slots[j..j + n].copy_from_slice(&values[i..i + n]);
+    for k in 0..n {
+        slots[j + k] = values[i + k];
+    }
 }
 
 // CALL opens a frame above the present one, and its operands become the parameters.

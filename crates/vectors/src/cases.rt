@@ -1,7 +1,7 @@
 // The cases, one after another, and what is counted of them.
 use crate::compiling::{Compiled, compile_case};
 use crate::decoding::Cases;
-use crate::running::{plain_value, run_answer, run_case};
+use crate::running::{PlainValue, RunAnswer, run_case};
 use std::alloc::{AllocError, Global};
 use std::fmt;
 use word::operators::plus;
@@ -96,23 +96,19 @@ fn one_case(
         }
         Kind::Run => {
             counts.run = plus(counts.run, 1);
-            let tape = cases.list(alloc, GIVEN, |c| c.number())?;
-            let fine = run_case(alloc, cases, &tape, run_answer)?;
+            let tape = cases.list(alloc, GIVEN)?;
+            let fine = run_case::<RunAnswer>(alloc, cases, &tape)?;
             latest.given = Some(tape);
             Ok(fine)
         }
         Kind::Plain => {
             counts.plain = plus(counts.plain, 1);
-            run_case(alloc, cases, &latest.own, plain_value)
+            run_case::<PlainValue>(alloc, cases, &latest.own)
         }
         Kind::RunLast => {
             counts.run = plus(counts.run, 1);
-            run_case(
-                alloc,
-                cases,
-                latest.given.as_ref().unwrap_or(&latest.own),
-                run_answer,
-            )
+            let tape = latest.given.as_ref().unwrap_or(&latest.own);
+            run_case::<RunAnswer>(alloc, cases, tape)
         }
     }
 }

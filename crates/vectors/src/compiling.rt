@@ -22,7 +22,7 @@ pub struct Compiled {
 
 pub fn compile_case(alloc: Global, cases: &mut Cases) -> Result<Compiled, AllocError> {
     let given = (cases.number() as usize).min(ROOM);
-    let table = cases.list(alloc, TABLE, |c| c.number())?;
+    let table: Vec<u32> = cases.list(alloc, TABLE)?;
     let mut out = vec![in alloc; MARK; ROOM]?;
     let answer = compiler::compile(&table, &mut out[..given]);
     if cases.number() != 0 {

@@ -1,6 +1,25 @@
 // Reading the file of cases: numbers, lists of words, runs of bytes (data/FORMAT.md). Any bytes may stand in it; where it ends early, what is missing is 0.
+ghost use Rattle.std.specs.Prelude.{◌≡◌, ◌≤◌, length, IfOk, vec_len};
+
 use std::alloc::{AllocError, Global};
 use word::operators::{plus, times};
+
+// What a list of the file holds: numbers, or bytes.
+pub trait Item: Sized {
+    fn read(cases: &mut Cases) -> Self;
+}
+
+impl Item for u32 {
+    fn read(cases: &mut Cases) -> u32 {
+        cases.number()
+    }
+}
+
+impl Item for u8 {
+    fn read(cases: &mut Cases) -> u8 {
+        cases.byte()
+    }
+}
 
 // What is left of the file.
 #[derive(Clone, Copy)]
@@ -39,20 +58,17 @@ impl<'a> Cases<'a> {
     }
 
     // A count and so many items, of which those within the room are read.
-    pub fn list<T: Drop, F: Fn(&mut Cases) -> T>(
-        &mut self,
-        alloc: Global,
-        room: usize,
-        item: F,
-    ) -> Result<Vec<T>, AllocError>
-        requires { (f : F) (c : _) → F.pre f c }
+    pub fn list<T: Item + Drop>(&mut self, alloc: Global, room: usize) -> Result<Vec<T>, AllocError>
+        ensures { IfOk result (λ list. vec_len list ≤ room) }
     {
         let n = (self.number() as usize).min(room);
-        (0..n).map(|_| item(self)).collect(alloc)
+        (0..n).map(|_| T::read(self)).collect(alloc)
     }
 
     // A count and so many bytes, each after its position: these bytes of the memory are changed.
-    pub fn changes(&mut self, memory: &mut [u8]) {
+    pub fn changes(&mut self, memory: &mut [u8])
+        ensures { length memory.new ≡ length memory.old }
+    {
         for _ in 0..self.number() {
             let place = self.number() as usize;
             let value = self.byte();

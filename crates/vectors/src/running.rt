@@ -27,25 +27,43 @@ impl Wanted {
     }
 }
 
-// Runs the tape on the arguments and memory that stand in the file: whether the answer and the bytes came out. `expect` reads the limit and the answer, and
-// makes the file's changes in the memory that it is given.
-pub fn run_case<F: Fn(&mut Cases, &mut [u8]) -> (u32, Wanted)>(
+// How a case of a kind ends: its limit and what is wanted are read, and the file's changes are made in the memory.
+pub trait Ending {
+    fn read(cases: &mut Cases, memory: &mut [u8]) -> (u32, Wanted);
+}
+
+// A run's limit and its answer; and a plain meaning's value, for a run to its end.
+pub struct RunAnswer;
+
+pub struct PlainValue;
+
+impl Ending for RunAnswer {
+    fn read(cases: &mut Cases, memory: &mut [u8]) -> (u32, Wanted) {
+        run_answer(cases, memory)
+    }
+}
+
+impl Ending for PlainValue {
+    fn read(cases: &mut Cases, memory: &mut [u8]) -> (u32, Wanted) {
+        plain_value(cases, memory)
+    }
+}
+
+// Runs the tape on the arguments and memory that stand in the file: whether the answer and the bytes came out.
+pub fn run_case<E: Ending>(
     alloc: Global,
     cases: &mut Cases,
     tape: &[u32],
-    expect: F,
-) -> Result<bool, AllocError>
-    requires { F.IsAlwaysCallable expect }
-{
-    let arguments = cases.list(alloc, ARGUMENTS, |c| c.number())?;
-    let mut memory = cases.list(alloc, MEMORY, |c| c.byte())?;
+) -> Result<bool, AllocError> {
+    let arguments: Vec<u32> = cases.list(alloc, ARGUMENTS)?;
+    let mut memory: Vec<u8> = cases.list(alloc, MEMORY)?;
     let mut expected = memory.to_vec(alloc)?;
-    let (limit, wanted) = expect(cases, &mut expected);
+    let (limit, wanted) = E::read(cases, &mut expected);
     let ran = machine::run(tape, &arguments, &mut memory, limit);
     Ok(wanted.is(ran) && memory == expected)
 }
 
-// A run's limit and its answer. A refusal leaves the memory as it was.
+// A refusal leaves the memory as it was.
 pub fn run_answer(cases: &mut Cases, memory: &mut [u8]) -> (u32, Wanted) {
     let limit = cases.number();
     let case = cases.number();
@@ -74,7 +92,6 @@ pub fn run_answer(cases: &mut Cases, memory: &mut [u8]) -> (u32, Wanted) {
     (limit, wanted)
 }
 
-// A plain meaning's value, for a run to its end.
 pub fn plain_value(cases: &mut Cases, memory: &mut [u8]) -> (u32, Wanted) {
     let value = cases.number();
     cases.changes(memory);

@@ -1,4 +1,4 @@
-// The swatch cases, through the compiler and the machine: each is printed with its answer. Where memory runs out, it ends with that error.
+// The swatch cases, through the compiler and the machine: each is printed with its answer.
 #![tactic(auto)]
 
 mod arrays;
@@ -12,7 +12,7 @@ use std::io;
 
 fn main(rt: HostRuntime) -> io::Result<()> {
     words::show_words(&rt)?;
-    branches::show_branches(&rt, rt.alloc())?;
+    branches::show_branches(&rt)?;
     loops::show_loops(&rt)?;
     arrays::show_arrays(&rt)
 }
